@@ -1,0 +1,214 @@
+-- A turn pays for what it prints: each item costs 1, and so does the turn itself unless it is cut.
+use Rattle.std.proofs.Common.{◌≡◌, ◌≢◌, ℕ, zero, suc, ◌+◌, ◌<◌, ◌≤◌, leb, eqb, List, ◌∷◌, [], length, Option, Some, None, refl, ap, arith, length-append, map, ◌%◌}
+use Rattle.std.specs.Prelude.{slice_get, slice_set}
+use Rattle.std.specs.List.{list_all}
+use Rattle.std.proofs.lemmas.Bool.{leb-false, eqb-false}
+use Rattle.ir_types.specs.declared.external.ItemKind.TheVariants.{Status}
+use Rattle.ir_types.specs.declared.instruction.Inst.{Inst}
+use Rattle.ir_types.specs.declared.instruction.Inst.TheVariants.{External, Ret}
+use Rattle.ir_types.specs.declared.instruction.Site.{Site}
+use Rattle.machine_model.specs.declared.run.TurnEnd.{TurnEnd}
+use Rattle.machine_model.specs.declared.run.TurnEnd.TheVariants as ends
+use Rattle.machine_model.specs.declared.state.Frame.{Frame}
+use Rattle.machine_model.specs.declared.state.Operation.{Operation}
+use Rattle.machine_model.specs.declared.state.Operation.TheVariants.{Start, At, CondReturn, Nothing}
+use Rattle.machine_model.specs.declared.state.State.{State}
+use Rattle.machine_model.specs.declared.state.Thread.{Thread}
+use Rattle.machine_model.specs.Call.{Returned, is_blocked, call_of}
+use Rattle.machine_model.specs.Code.{Placed, next_in}
+use Rattle.machine_model.specs.Effect.{Effect, Footprint, mapped}
+use Rattle.machine_model.specs.Effect.Effect.{Done, Exits, Traps, Blocks}
+use Rattle.machine_model.specs.Instruction.{effect_of}
+use Rattle.machine_model.specs.Memory.{without}
+use Rattle.machine_model.specs.Operation.{visible_effect, charged_for_items, ended, returned, ends_with, unless_last, with_status, put_back, footprint_of}
+use Rattle.machine_model.specs.Setting.{Setting}
+use Rattle.machine_model.specs.Thread.{top, has_ended, value_of}
+use Rattle.machine_model.specs.Turn.{Turned, Move, charged, moved, operated, operated_in, operated_at, rest_of_turn, went_on, ran, ran_on, then_on, turn, turn_of}
+use Rattle.machine_model.specs.Turn.Move.{Leads, Stops}
+use Rattle.machine_model.proofs.Cases.{by_test}
+use Rattle.machine_model.proofs.Payment.{Pays, moved-pays}
+
+-- what an effect prints costs it 1 for each item, but for the exit status
+abbrev pub Charges : State → Effect State → Type 0
+Charges before (Done more after) =
+    (length before.output ≤ length after.output) × (length after.output ≤ length before.output + more)
+Charges before (Exits more status after) =
+    (length before.output ≤ length after.output) × (length after.output ≤ length before.output + more + 1)
+Charges before (Traps trap) = Unit {0}
+Charges before Blocks = Unit {0}
+
+returned-charges : (state : State) (number : ℕ) (frame : Frame) (to : Option ℕ) (call : Effect Returned) →
+    Charges state (charged_for_items (returned state.output number frame to) call)
+returned-charges state number frame to (Done more call) =
+    let long = length-append state.output call.items in (omega arith, omega arith)
+returned-charges state number frame to (Exits more status call) =
+    let long = length-append state.output call.items in (omega arith, omega arith)
+returned-charges state number frame to (Traps trap) = tt
+returned-charges state number frame to Blocks = tt
+
+status-charges : (before state : State) (more status : ℕ) → state.output ≡ before.output →
+    Charges before (Exits more status (with_status state status))
+status-charges before state more status same =
+    let long = length-append state.output (record { kind = Status; bits = status } ∷ []) in
+    let alike = ap length same in
+    (omega arith, omega arith)
+
+unless_last-charges : (before state : State) → state.output ≡ before.output → Charges before (unless_last state)
+unless_last-charges before state same =
+    by_test (Charges before) (list_all has_ended state.threads) _ _
+    (λ h. status-charges before state 0 0 same)
+    (λ h. let alike = ap length same in (omega arith, omega arith))
+
+ends_with-charges : (state : State) (number : ℕ) (thread : Thread) (frame : Frame) (result : ℕ) →
+    Charges state (ends_with state number thread frame result)
+ends_with-charges state number thread frame result =
+    by_test (Charges state) (eqb number 0) _ _
+    (λ h. status-charges state state 0 (result % 256) refl)
+    (λ h. unless_last-charges state (record state {
+      threads = slice_set state.threads number (ended thread result);
+      objects = without frame.stack state.objects;
+    }) refl)
+
+mapped-charges : (state : State) (number : ℕ) (effect : Effect Footprint) →
+    Charges state (mapped (put_back state number) effect)
+mapped-charges state number (Done more after) = (omega arith, omega arith)
+mapped-charges state number (Exits more status after) = (omega arith, omega arith)
+mapped-charges state number (Traps trap) = tt
+mapped-charges state number Blocks = tt
+
+visible_effect-charges : (setting : Setting) (state : State) (number : ℕ) (thread : Thread) (frame : Frame)
+    (decided : List ℕ) (inst : Inst) → Charges state (visible_effect setting state number thread frame decided inst)
+unfolding visible_effect
+visible_effect-charges setting state number thread frame decided (External to which arguments) =
+    by_test (Charges state) (is_blocked state which decided) _ _
+    (λ h. tt)
+    (λ h. returned-charges state number frame to
+    (call_of setting state which (map (value_of frame) arguments) decided))
+visible_effect-charges setting state number thread frame decided (Ret value) =
+    ends_with-charges state number thread frame _
+visible_effect-charges setting state number thread frame decided inst =
+    mapped-charges state number (effect_of setting number (footprint_of state thread) frame decided inst)
+
+-- what the end of a turn has paid for the turn itself
+abbrev pub price_of : TurnEnd → ℕ
+price_of ends.Going = 1
+price_of (ends.Exit status) = 0
+price_of (ends.Trap trap site) = 1
+price_of ends.Spent = 0
+
+-- the output only grows, and items and steps that are left pay for this much more
+pub record Balances (before after : State) (left rest price : ℕ) : Type 0 where
+  pub grows : length before.output ≤ length after.output
+  pub pays : length after.output + rest + price ≤ length before.output + left
+
+abbrev pub IsOver : TurnEnd → Type 0
+IsOver ends.Going = ⊥
+IsOver (ends.Exit status) = Unit {0}
+IsOver (ends.Trap trap site) = Unit {0}
+IsOver ends.Spent = Unit {0}
+
+abbrev pub MoveBalances : State → ℕ → Move State → Type 0
+MoveBalances before left (Leads after rest decided) = Balances before after left rest 1
+MoveBalances before left (Stops turned) =
+    IsOver turned.end × Balances before turned.after left turned.left (price_of turned.end)
+
+charged-balances : (before : State) (left : ℕ) (decided : List ℕ) (site : Site) (effect : Effect State) →
+    Charges before effect → MoveBalances before left (charged before left decided site effect)
+unfolding charged
+charged-balances before left decided site (Done more after) charges =
+    by_test (MoveBalances before left) (leb left more) _ _
+    (λ h. (tt, record { grows = omega arith; pays = omega arith }))
+    (λ h. let room : more < left = leb-false left more h in record { grows = charges.0; pays = omega arith })
+charged-balances before left decided site (Exits more status after) charges =
+    by_test (MoveBalances before left) (leb left more) _ _
+    (λ h. (tt, record { grows = omega arith; pays = omega arith }))
+    (λ h. let room : more < left = leb-false left more h in (tt, record { grows = charges.0; pays = omega arith }))
+charged-balances before left decided site (Traps trap) charges =
+    by_test (MoveBalances before left) (eqb left 0) _ _
+    (λ h. (tt, record { grows = omega arith; pays = omega arith }))
+    (λ h. let some : left ≢ 0 = eqb-false left 0 h in (tt, record { grows = omega arith; pays = omega arith }))
+charged-balances before left decided site Blocks charges = (tt, record { grows = omega arith; pays = omega arith })
+
+spent-balances : (state : State) (left : ℕ) → IsOver ends.Spent × Balances state state left left 0
+spent-balances state left = (tt, record { grows = omega arith; pays = omega arith })
+
+operated_at-balances : (setting : Setting) (state : State) (number left : ℕ) (thread : Thread) (decided : List ℕ)
+    (frame : Frame) (placed : Option Placed) →
+    MoveBalances state left (operated_at setting state number left thread decided frame placed)
+operated_at-balances setting state number left thread decided frame None = spent-balances state left
+operated_at-balances setting state number left thread decided frame (Some placed) =
+    charged-balances state left _ placed.site _ (visible_effect-charges setting state number thread frame _ placed.inst)
+
+operated_in-balances : (setting : Setting) (state : State) (number left : ℕ) (thread : Thread) (decided : List ℕ)
+    (frame : Option Frame) → MoveBalances state left (operated_in setting state number left thread decided frame)
+operated_in-balances setting state number left thread decided None = spent-balances state left
+operated_in-balances setting state number left thread decided (Some frame) =
+    operated_at-balances setting state number left thread decided frame (next_in setting.code frame)
+
+operated-balances : (setting : Setting) (state : State) (number left : ℕ) (thread : Thread) (operation : Operation) →
+    MoveBalances state left (operated setting state number left thread operation)
+unfolding operated
+operated-balances setting state number left thread Start =
+    by_test (MoveBalances state left) (eqb left 0) _ _
+    (λ h. spent-balances state left)
+    (λ h. let some : left ≢ 0 = eqb-false left 0 h in record { grows = omega arith; pays = omega arith })
+operated-balances setting state number left thread (At site decided) =
+    operated_in-balances setting state number left thread decided (top thread)
+operated-balances setting state number left thread (CondReturn site decided) = spent-balances state left
+operated-balances setting state number left thread Nothing = spent-balances state left
+
+then_on-keeps : (go : Footprint → ℕ → List ℕ → Turned Footprint) (left : ℕ) (move : Move Footprint) → Pays left move →
+    ((after : Footprint) (rest : ℕ) (decided : List ℕ) → (go after rest decided).left ≤ rest) →
+    (then_on go move).left ≤ left
+then_on-keeps go left (Leads after rest decided) pays keeps = let kept = keeps after rest decided in omega arith
+then_on-keeps go left (Stops turned) pays keeps = pays
+
+-- instructions leave no more steps than there were
+ran-keeps : (setting : Setting) (number most : ℕ) (footprint : Footprint) (left : ℕ) (decided : List ℕ) →
+    (ran most setting number footprint left decided).left ≤ left
+unfolding ran
+ran-keeps setting number zero footprint left decided = omega arith
+ran-keeps setting number (suc most) footprint left decided =
+    then_on-keeps (ran most setting number) left (moved setting number footprint left decided)
+    (moved-pays setting number footprint left decided) (ran-keeps setting number most)
+
+-- the turn goes on from here
+went_on-balances : (setting : Setting) (number : ℕ) (before state : State) (left rest : ℕ) (decided : List ℕ)
+    (thread : Option Thread) → Balances before state left rest 1 →
+    let turned = went_on setting number state rest decided thread in
+    Balances before turned.after left turned.left (price_of turned.end)
+went_on-balances setting number before state left rest decided None balances =
+    record { grows = balances.grows; pays = omega (arith, balances.pays) }
+went_on-balances setting number before state left rest decided (Some thread) balances =
+    by_test (λ (turned : Turned State). Balances before turned.after left turned.left (price_of turned.end)) (has_ended thread) _ _
+    (λ h. balances)
+    (λ h. let keeps = ran-keeps setting number (rest + 1) (footprint_of state thread) rest decided in
+    let bound = price-bound (ran_on setting number (footprint_of state thread) rest decided).end in
+    record { grows = balances.grows; pays = omega (arith, balances.pays) })
+  where
+    price-bound : (end : TurnEnd) → price_of end ≤ 1
+    price-bound ends.Going = omega arith
+    price-bound (ends.Exit status) = omega arith
+    price-bound (ends.Trap trap site) = omega arith
+    price-bound ends.Spent = omega arith
+
+-- a turn's items, its steps and the turn itself are paid from what was left
+pub turn-balances : (setting : Setting) (state : State) (number left : ℕ) →
+    let turned = turn setting state number left in
+    Balances state turned.after left turned.left (price_of turned.end)
+unfolding turn rest_of_turn
+turn-balances setting state number left = by_thread (slice_get state.threads number)
+  where
+    by_move : (move : Move State) → MoveBalances state left move →
+        let turned = then_on (rest_of_turn setting number) move in
+        Balances state turned.after left turned.left (price_of turned.end)
+    by_move (Leads after rest decided) balances =
+        went_on-balances setting number state after left rest decided (slice_get after.threads number) balances
+    by_move (Stops turned) balances = balances.1
+
+    by_thread : (thread : Option Thread) → let turned = turn_of setting state number left thread in
+        Balances state turned.after left turned.left (price_of turned.end)
+    by_thread None = (spent-balances state left).1
+    by_thread (Some thread) =
+        by_move (operated setting state number left thread thread.pending)
+        (operated-balances setting state number left thread thread.pending)

@@ -1,0 +1,293 @@
+-- A turn or a run that was not cut is the same under a larger budget, but for the steps that are left.
+use Rattle.std.proofs.Common.{◌≡◌, ◌≢◌, ℕ, zero, suc, ◌+◌, ◌-◌, ◌<◌, ◌≤◌, Bool, true, false, cond, leb, eqb, List, ◌++◌, [], Option, Some, None, refl, ap, ◌∙◌, arith}
+use Rattle.std.specs.Prelude.{slice_get}
+use Rattle.std.proofs.lemmas.Bool.{leb-false, eqb-false, lt-leb, ne_eqb}
+use Rattle.ir_types.specs.declared.instruction.Site.{Site}
+use Rattle.machine_model.specs.declared.run.Outcome.TheVariants as outcomes
+use Rattle.machine_model.specs.declared.run.Run.{Run}
+use Rattle.machine_model.specs.declared.run.TurnEnd.{TurnEnd}
+use Rattle.machine_model.specs.declared.run.TurnEnd.TheVariants as ends
+use Rattle.machine_model.specs.declared.state.Frame.{Frame}
+use Rattle.machine_model.specs.declared.state.Operation.{Operation}
+use Rattle.machine_model.specs.declared.state.Operation.TheVariants.{Start, At, CondReturn, Nothing}
+use Rattle.machine_model.specs.declared.state.State.{State}
+use Rattle.machine_model.specs.declared.state.Thread.{Thread}
+use Rattle.machine_model.specs.Code.{Placed, next_in}
+use Rattle.machine_model.specs.Effect.{Effect, Footprint}
+use Rattle.machine_model.specs.Effect.Effect.{Done, Exits, Traps, Blocks}
+use Rattle.machine_model.specs.Decision.{places_of, outcomes_of}
+use Rattle.machine_model.specs.Instruction.{effect_of}
+use Rattle.machine_model.specs.Operation.{is_visible, footprint_of}
+use Rattle.machine_model.specs.Run.{Advance, Course, advanced, advanced_with, advanced_by, after_turn, begun, onward_or_told, run_from, run_of}
+use Rattle.machine_model.specs.Run.Advance.{Onward, Over}
+use Rattle.machine_model.specs.Follow.{Choice, choose}
+use Rattle.machine_model.specs.Enabled.{enabled}
+use Rattle.machine_model.specs.Setting.{Setting}
+use Rattle.machine_model.specs.Thread.{top, has_ended}
+use Rattle.machine_model.specs.Turn.{Turned, Move, charged, stops, waiting, moved, moved_in, moved_at, operated, operated_in, operated_at, rest_of_turn, went_on, put_in, ran, ran_on, then_on, turn, turn_of}
+use Rattle.machine_model.specs.Turn.Move.{Leads, Stops}
+use Rattle.machine_model.proofs.Cases.{by_test}
+
+-- with so many more steps left
+abbrev pub richer : {S : Type 0} → ℕ → Turned S → Turned S
+richer more turned = record turned { left = turned.left + more }
+
+abbrev pub richer_move : {S : Type 0} → ℕ → Move S → Move S
+richer_move more (Leads after left decided) = Leads after (left + more) decided
+richer_move more (Stops turned) = Stops (richer more turned)
+
+-- nothing was cut
+abbrev pub IsWhole : {S : Type 0} → Move S → Type 0
+IsWhole (Leads after left decided) = Unit {0}
+IsWhole (Stops turned) = turned.end ≢ ends.Spent
+
+-- with more steps the move is the same, unless it was cut
+abbrev pub Lasts : {S : Type 0} → ℕ → Move S → Move S → Type 0
+Lasts more move richer = IsWhole move → richer ≡ richer_move more move
+
+charged-lasts : {S : Type 0} (more : ℕ) (before : S) (left : ℕ) (decided : List ℕ) (site : Site) (effect : Effect S) →
+    Lasts more (charged before left decided site effect) (charged before (left + more) decided site effect)
+unfolding charged
+charged-lasts {S} more before left decided site (Done extra after) =
+    by_test (λ (move : Move S). Lasts more move (charged before (left + more) decided site (Done extra after)))
+    (leb left extra) _ _
+    (λ h whole. absurd (whole refl))
+    (λ h whole. let room : extra < left = leb-false left extra h in
+    rw (lt-leb (left + more) extra (omega arith)) (ap (λ rest. Leads after rest decided) (omega arith)))
+charged-lasts {S} more before left decided site (Exits extra status after) =
+    by_test (λ (move : Move S). Lasts more move (charged before (left + more) decided site (Exits extra status after)))
+    (leb left extra) _ _
+    (λ h whole. absurd (whole refl))
+    (λ h whole. let room : extra < left = leb-false left extra h in
+    rw (lt-leb (left + more) extra (omega arith))
+    (ap (λ rest. Stops (record { after = after; left = rest; decided = decided; end = ends.Exit status })) (omega arith)))
+charged-lasts {S} more before left decided site (Traps trap) =
+    by_test (λ (move : Move S). Lasts more move (charged before (left + more) decided site (Traps trap)))
+    (eqb left 0) _ _
+    (λ h whole. absurd (whole refl))
+    (λ h whole. let some : left ≢ 0 = eqb-false left 0 h in
+    rw (ne_eqb (left + more) 0 (omega arith))
+    (ap (λ rest. Stops (record { after = before; left = rest; decided = decided; end = ends.Trap trap site })) (omega arith)))
+charged-lasts {S} more before left decided site Blocks = λ whole. absurd (whole refl)
+
+moved_at-lasts : (setting : Setting) (number more : ℕ) (footprint : Footprint) (left : ℕ) (decided : List ℕ)
+    (frame : Frame) (placed : Option Placed) →
+    Lasts more (moved_at setting number footprint left decided frame placed)
+    (moved_at setting number footprint (left + more) decided frame placed)
+moved_at-lasts setting number more footprint left decided frame None = λ whole. absurd (whole refl)
+moved_at-lasts setting number more footprint left decided frame (Some placed) =
+    go (is_visible setting.watch footprint.thread placed.site placed.inst)
+  where
+    places : List ℕ
+    places = places_of frame placed.inst
+
+    numbers : List ℕ
+    numbers = places ++ outcomes_of setting.code footprint.objects frame placed.inst
+
+    pending : ℕ → Move Footprint
+    pending rest = stops (waiting footprint placed.site places) rest (decided ++ places) ends.Going
+
+    run : ℕ → Move Footprint
+    run rest = charged footprint rest (decided ++ numbers) placed.site
+        (effect_of setting number footprint frame numbers placed.inst)
+
+    go : (visible : Bool) → Lasts more (cond visible (pending left) (run left)) (cond visible (pending (left + more)) (run (left + more)))
+    go true = λ whole. refl
+    go false = charged-lasts more footprint left (decided ++ numbers) placed.site
+        (effect_of setting number footprint frame numbers placed.inst)
+
+moved_in-lasts : (setting : Setting) (number more : ℕ) (footprint : Footprint) (left : ℕ) (decided : List ℕ)
+    (frame : Option Frame) →
+    Lasts more (moved_in setting number footprint left decided frame)
+    (moved_in setting number footprint (left + more) decided frame)
+moved_in-lasts setting number more footprint left decided None = λ whole. absurd (whole refl)
+moved_in-lasts setting number more footprint left decided (Some frame) =
+    moved_at-lasts setting number more footprint left decided frame (next_in setting.code frame)
+
+moved-lasts : (setting : Setting) (number more : ℕ) (footprint : Footprint) (left : ℕ) (decided : List ℕ) →
+    Lasts more (moved setting number footprint left decided) (moved setting number footprint (left + more) decided)
+unfolding moved
+moved-lasts setting number more footprint left decided =
+    moved_in-lasts setting number more footprint left decided (top footprint.thread)
+
+-- what a move leads to lasts where what it goes on with does
+then_on-lasts : {S : Type 0} (more : ℕ) (go other : S → ℕ → List ℕ → Turned S) (move richer_one : Move S) →
+    Lasts more move richer_one →
+    ((after : S) (left : ℕ) (decided : List ℕ) → (go after left decided).end ≢ ends.Spent →
+    other after (left + more) decided ≡ richer more (go after left decided)) →
+    (then_on go move).end ≢ ends.Spent → then_on other richer_one ≡ richer more (then_on go move)
+then_on-lasts more go other (Leads after left decided) richer_one lasts on whole =
+    rw (lasts tt) (on after left decided whole)
+then_on-lasts more go other (Stops turned) richer_one lasts on whole = rw (lasts whole) refl
+
+ran-lasts : (setting : Setting) (number more : ℕ) (most most' : ℕ) (footprint : Footprint) (left : ℕ) (decided : List ℕ) →
+    most ≤ most' → (ran most setting number footprint left decided).end ≢ ends.Spent →
+    ran most' setting number footprint (left + more) decided ≡ richer more (ran most setting number footprint left decided)
+unfolding ran
+ran-lasts setting number more zero most' footprint left decided h whole = absurd (whole refl)
+ran-lasts setting number more (suc most) zero footprint left decided h whole = absurd (omega arith)
+ran-lasts setting number more (suc most) (suc most') footprint left decided h whole =
+    then_on-lasts more (ran most setting number) (ran most' setting number)
+    (moved setting number footprint left decided) (moved setting number footprint (left + more) decided)
+    (moved-lasts setting number more footprint left decided)
+    (λ after rest others. ran-lasts setting number more most most' after rest others (omega arith))
+    whole
+
+went_on-lasts : (setting : Setting) (number more : ℕ) (state : State) (left : ℕ) (decided : List ℕ) (thread : Option Thread) →
+    (went_on setting number state left decided thread).end ≢ ends.Spent →
+    went_on setting number state (left + more) decided thread ≡ richer more (went_on setting number state left decided thread)
+went_on-lasts setting number more state left decided None = λ whole. absurd (whole refl)
+went_on-lasts setting number more state left decided (Some thread) =
+    go (has_ended thread)
+  where
+    on : ℕ → Turned State
+    on rest = put_in state number (ran_on setting number (footprint_of state thread) rest decided)
+
+    over : ℕ → Turned State
+    over rest = record { after = state; left = rest; decided = decided; end = ends.Going }
+
+    go : (has : Bool) → (cond has (over left) (on left)).end ≢ ends.Spent →
+        cond has (over (left + more)) (on (left + more)) ≡ richer more (cond has (over left) (on left))
+    go true whole = refl
+    go false whole = ap (put_in state number)
+        (ran-lasts setting number more (left + 1) (left + more + 1) (footprint_of state thread) left decided (omega arith) whole)
+
+rest_of_turn-lasts : (setting : Setting) (number more : ℕ) (state : State) (left : ℕ) (decided : List ℕ) →
+    (rest_of_turn setting number state left decided).end ≢ ends.Spent →
+    rest_of_turn setting number state (left + more) decided ≡ richer more (rest_of_turn setting number state left decided)
+unfolding rest_of_turn
+rest_of_turn-lasts setting number more state left decided =
+    went_on-lasts setting number more state left decided (slice_get state.threads number)
+
+operated_at-lasts : (setting : Setting) (state : State) (number more left : ℕ) (thread : Thread) (decided : List ℕ)
+    (frame : Frame) (placed : Option Placed) →
+    Lasts more (operated_at setting state number left thread decided frame placed)
+    (operated_at setting state number (left + more) thread decided frame placed)
+operated_at-lasts setting state number more left thread decided frame None = λ whole. absurd (whole refl)
+operated_at-lasts setting state number more left thread decided frame (Some placed) =
+    charged-lasts more state left _ placed.site _
+
+operated_in-lasts : (setting : Setting) (state : State) (number more left : ℕ) (thread : Thread) (decided : List ℕ)
+    (frame : Option Frame) →
+    Lasts more (operated_in setting state number left thread decided frame)
+    (operated_in setting state number (left + more) thread decided frame)
+operated_in-lasts setting state number more left thread decided None = λ whole. absurd (whole refl)
+operated_in-lasts setting state number more left thread decided (Some frame) =
+    operated_at-lasts setting state number more left thread decided frame (next_in setting.code frame)
+
+operated-lasts : (setting : Setting) (state : State) (number more left : ℕ) (thread : Thread) (operation : Operation) →
+    Lasts more (operated setting state number left thread operation)
+    (operated setting state number (left + more) thread operation)
+unfolding operated
+operated-lasts setting state number more left thread Start =
+    by_test (λ (move : Move State). Lasts more move (operated setting state number (left + more) thread Start))
+    (eqb left 0) _ _
+    (λ h whole. absurd (whole refl))
+    (λ h whole. let some : left ≢ 0 = eqb-false left 0 h in
+    rw (ne_eqb (left + more) 0 (omega arith)) (ap (λ rest. Leads state rest []) (omega arith)))
+operated-lasts setting state number more left thread (At site decided) =
+    operated_in-lasts setting state number more left thread decided (top thread)
+operated-lasts setting state number more left thread (CondReturn site decided) = λ whole. absurd (whole refl)
+operated-lasts setting state number more left thread Nothing = λ whole. absurd (whole refl)
+
+turn_of-lasts : (setting : Setting) (state : State) (number more left : ℕ) (thread : Option Thread) →
+    (turn_of setting state number left thread).end ≢ ends.Spent →
+    turn_of setting state number (left + more) thread ≡ richer more (turn_of setting state number left thread)
+turn_of-lasts setting state number more left None whole = absurd (whole refl)
+turn_of-lasts setting state number more left (Some thread) whole =
+    then_on-lasts more (rest_of_turn setting number) (rest_of_turn setting number)
+    (operated setting state number left thread thread.pending)
+    (operated setting state number (left + more) thread thread.pending)
+    (operated-lasts setting state number more left thread thread.pending)
+    (rest_of_turn-lasts setting number more) whole
+
+-- a turn that was not cut is the same with more steps
+turn-lasts : (setting : Setting) (state : State) (number more left : ℕ) →
+    (turn setting state number left).end ≢ ends.Spent →
+    turn setting state number (left + more) ≡ richer more (turn setting state number left)
+unfolding turn
+turn-lasts setting state number more left =
+    turn_of-lasts setting state number more left (slice_get state.threads number)
+
+abbrev richer_course : ℕ → Course → Course
+richer_course more course = record course { left = course.left + more }
+
+-- the turn of a run that goes on, or ends otherwise than spent, was not cut
+abbrev pub AdvanceIsWhole : Advance → Type 0
+AdvanceIsWhole (Onward next) = Unit {0}
+AdvanceIsWhole (Over last outcome) = outcome ≢ outcomes.Spent
+
+advanced_by-whole : (thread : ℕ) (course : Course) (end : TurnEnd) →
+    AdvanceIsWhole (advanced_by thread course end) → end ≢ ends.Spent
+advanced_by-whole thread course ends.Going whole = λ is. cc
+advanced_by-whole thread course (ends.Exit status) whole = λ is. cc
+advanced_by-whole thread course (ends.Trap trap site) whole = λ is. cc
+advanced_by-whole thread course ends.Spent whole = λ is. whole refl
+
+abbrev richer_advance : ℕ → Advance → Advance
+richer_advance more (Onward next) = Onward (richer_course more next)
+richer_advance more (Over last outcome) = Over (richer_course more last) outcome
+
+advanced_by-richer : (more : ℕ) (course : Course) (choice : Choice) (turned : Turned State) →
+    advanced_by choice.thread (after_turn (richer_course more course) choice (richer more turned)) turned.end
+    ≡ richer_advance more (advanced_by choice.thread (after_turn course choice turned) turned.end)
+advanced_by-richer more course choice turned = go turned.end
+  where
+    go : (end : TurnEnd) →
+        advanced_by choice.thread (after_turn (richer_course more course) choice (richer more turned)) end
+        ≡ richer_advance more (advanced_by choice.thread (after_turn course choice turned) end)
+    go ends.Going = refl
+    go (ends.Exit status) = refl
+    go (ends.Trap trap site) = refl
+    go ends.Spent = refl
+
+advanced_with-lasts : (setting : Setting) (more : ℕ) (course : Course) (choice : Option Choice) →
+    AdvanceIsWhole (advanced_with setting course choice) →
+    advanced_with setting (richer_course more course) choice ≡ richer_advance more (advanced_with setting course choice)
+advanced_with-lasts setting more course None whole = refl
+advanced_with-lasts setting more course (Some choice) whole =
+    let lasts = turn-lasts setting course.state choice.thread more course.left
+    (advanced_by-whole choice.thread _ _ whole) in
+    rw lasts (advanced_by-richer more course choice (turn setting course.state choice.thread course.left))
+
+advanced-lasts : (setting : Setting) (listed : List ℕ) (more : ℕ) (course : Course) →
+    AdvanceIsWhole (advanced setting listed course) →
+    advanced setting listed (richer_course more course) ≡ richer_advance more (advanced setting listed course)
+unfolding advanced
+advanced-lasts setting listed more course =
+    advanced_with-lasts setting more course (choose listed course.follow (enabled setting course.state))
+
+-- a run that is not spent has no turn that was cut
+onward-whole : (go : Course → Run) (advance : Advance) →
+    (onward_or_told go advance).outcome ≢ outcomes.Spent → AdvanceIsWhole advance
+onward-whole go (Onward next) whole = tt
+onward-whole go (Over last outcome) whole = whole
+
+onward-lasts : (more : ℕ) (go other : Course → Run) (advance : Advance) →
+    ((next : Course) → (go next).outcome ≢ outcomes.Spent → other (richer_course more next) ≡ go next) →
+    (onward_or_told go advance).outcome ≢ outcomes.Spent →
+    onward_or_told other (richer_advance more advance) ≡ onward_or_told go advance
+onward-lasts more go other (Onward next) on whole = on next whole
+onward-lasts more go other (Over last outcome) on whole = refl
+
+run_from-lasts : (setting : Setting) (listed : List ℕ) (more most most' : ℕ) (course : Course) → most ≤ most' →
+    (run_from most setting listed course).outcome ≢ outcomes.Spent →
+    run_from most' setting listed (richer_course more course) ≡ run_from most setting listed course
+unfolding run_from
+run_from-lasts setting listed more zero most' course h whole = absurd (whole refl)
+run_from-lasts setting listed more (suc most) zero course h whole = absurd (omega arith)
+run_from-lasts setting listed more (suc most) (suc most') course h whole =
+    let lasts = advanced-lasts setting listed more course
+    (onward-whole (run_from most setting listed) (advanced setting listed course) whole) in
+    rw lasts (onward-lasts more (run_from most setting listed) (run_from most' setting listed)
+    (advanced setting listed course)
+    (λ next. run_from-lasts setting listed more most most' next (omega arith)) whole)
+
+-- a run that is not spent is the run of every larger budget
+pub run_of-lasts : (setting : Setting) (listed : List ℕ) (steps more : ℕ) → steps ≤ more →
+    (run_of setting listed steps).outcome ≢ outcomes.Spent → run_of setting listed more ≡ run_of setting listed steps
+unfolding run_of
+run_of-lasts setting listed steps more h whole =
+    let sum : more ≡ steps + (more - steps) = omega arith in
+    let lasts = run_from-lasts setting listed (more - steps) (steps + 1) (more + 1) (begun setting steps) (omega arith) whole in
+    ap (λ budget. run_from (more + 1) setting listed (begun setting budget)) sum ∙ lasts

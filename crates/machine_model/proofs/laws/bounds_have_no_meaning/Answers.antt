@@ -1,0 +1,11 @@
+use Rattle.std.proofs.Common.{arith, ◌+◌}
+use Rattle.machine_model.proofs.Budget.{run_of-agrees}
+use Rattle.machine_model.proofs.Payment.{ran-agrees}
+use Rattle.machine_model.proofs.laws.bounds_have_no_meaning.Goals as goal
+
+pub returns-clause-turn : goal.returns-clause-turn
+returns-clause-turn c = λ setting number footprint left decided most h.
+    ran-agrees setting number most (left + 1) footprint left decided h (omega arith)
+
+pub returns-clause-run : goal.returns-clause-run
+returns-clause-run c = run_of-agrees

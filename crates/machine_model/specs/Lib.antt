@@ -1,0 +1,16 @@
+pub mod Call
+pub mod Code
+pub mod Decision
+pub mod Effect
+pub mod Enabled
+pub mod Example
+pub mod Follow
+pub mod Instruction
+pub mod Laws
+pub mod Memory
+pub mod Operation
+pub mod Primary
+pub mod Run
+pub mod Setting
+pub mod Thread
+pub mod Turn
