@@ -1,0 +1,60 @@
+//! Reading the files that a command names, whole and in order.
+
+ghost use Rattle.std.specs.Prelude.{◌≡◌, ℕ, List, IfSome};
+ghost use Rattle.race_top.specs.Due.{Tells};
+ghost use Rattle.race_top.specs.Command.{task_of};
+ghost use Rattle.race_top.specs.Files.{GivesFile, GivesFiles, HasCauses};
+
+use crate::command::Command;
+use crate::file::File;
+use crate::refusal::Refusal;
+use rc_base::{ReadWhole, Shelf, read_whole};
+use std::alloc::Global;
+
+/// Why no files are at hand.
+#[derive(Clone, Copy, Debug, PartialEq, Eq)]
+pub enum Stop {
+    ReadFailed,
+    Refused(Refusal),
+    NoMemory,
+}
+
+/// The bytes of the files that a command names.
+#[derive(Debug, Drop)]
+pub struct Files {
+    pub module: Vec<u8>,
+    pub case: Vec<u8>,
+}
+
+impl Files {
+    /// Reads the module's file whole, and then the case's.
+    pub fn read<F: Shelf>(alloc: Global, shelf: &mut F, command: Command<'_>) -> Result<Files, Stop>
+        ensures whole { (code case : List ℕ) → Tells (F.holds shelf.old) (Some (task_of command.entry)) code case → GivesFiles result code case }
+        ensures cause { HasCauses result (F.faults shelf.old) (F.faults shelf.new) (F.given shelf.old) (F.given shelf.new) }
+        ensures told { (other : List ℕ) → F.holds shelf.new other ≡ F.holds shelf.old other }
+    {
+        let Command::Replay { module, case } = command;
+        let module = read_file(alloc, shelf, module, File::Module)?;
+        let case = read_file(alloc, shelf, case, File::Case)?;
+        Ok(Files { module, case })
+    }
+}
+
+/// Reads one file whole, unless it is longer than its limit.
+fn read_file<F: Shelf>(
+    alloc: Global,
+    shelf: &mut F,
+    name: &str,
+    file: File,
+) -> Result<Vec<u8>, Stop>
+    ensures whole { IfSome (F.holds shelf.old name.now) (λ bytes. GivesFile result file bytes) }
+    ensures cause { HasCauses result (F.faults shelf.old) (F.faults shelf.new) (F.given shelf.old) (F.given shelf.new) }
+    ensures told { (other : List ℕ) → F.holds shelf.new other ≡ F.holds shelf.old other }
+{
+    match read_whole(alloc, shelf, name, file.limit()) {
+        Ok(bytes) => Ok(bytes),
+        Err(ReadWhole::Fault) => Err(Stop::ReadFailed),
+        Err(ReadWhole::TooLong) => Err(Stop::Refused(Refusal::TooLong { file })),
+        Err(ReadWhole::NoMemory) => Err(Stop::NoMemory),
+    }
+}
