@@ -1,6 +1,6 @@
 //! The machine that runs modules: its state and runs as data, and what a step, a turn and a run are.
 //!
-//! - `state`, `operation`: threads with their frames, objects, locks, conditions and the output
+//! - `state`: threads with their frames, objects, locks, conditions and the output
 //! - `trap`, `run`: how an instruction fails, how a turn and a run end, and what a run leaves
 //! - `case`, `race`: what is asked of a recorded run
 //! - `copy`: equal inputs and turns
@@ -11,7 +11,7 @@
 
 mod case;
 mod copy;
-mod laws;
+pub mod laws;
 mod race;
 mod run;
 mod state;
@@ -19,9 +19,6 @@ mod trap;
 
 pub use case::{Case, Key};
 pub use copy::{copy_input, copy_turns};
-pub use laws::{
-    bounds_have_no_meaning, larger_budget_keeps_run, run_is_within_budget, worked_example,
-};
 pub use race::{Path, Race};
 pub use run::{Decisions, Outcome, Reason, Run, TurnEnd, Turns};
 pub use state::{Condition, Frame, Lock, Object, ObjectKind, Operation, OutItem, State, Thread};
