@@ -1,5 +1,7 @@
 //! Reading files at a place, with the one that was read last kept open.
 
+ghost use Rattle.std.specs.Prelude.{◌≤◌, length, IfOk};
+
 use std::fs::File;
 use std::io;
 use std::io::{Read, Seek, SeekFrom};
@@ -27,7 +29,9 @@ impl<'r, R: Files + AllocGlobal> FileReader<'r, R> {
     }
 
     /// Reads from place `at` on, and answers how many bytes it read: 0 at the end.
-    pub fn read(&mut self, path: &str, at: u64, buf: &mut [u8]) -> io::Result<usize> {
+    pub fn read(&mut self, path: &str, at: u64, buf: &mut [u8]) -> io::Result<usize>
+        ensures { IfOk result (λ count. count ≤ length buf.old) }
+    {
         let mut opened = match self.opened.take() {
             Some(opened) if opened.path.as_str() == path && opened.at == at => opened,
             _ => self.open(path, at)?,

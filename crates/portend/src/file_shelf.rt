@@ -1,6 +1,6 @@
 //! A shelf of the files of a file system.
 
-ghost use Rattle.std.specs.Prelude.{None};
+ghost use Rattle.std.specs.Prelude.{◌≡◌, None};
 
 use crate::file_reader::FileReader;
 use rc_base::{Failed, Shelf};
@@ -15,7 +15,10 @@ pub struct FileShelf<'r, R: Files + AllocGlobal> {
 }
 
 impl<'r, R: Files + AllocGlobal> FileShelf<'r, R> {
-    pub fn new(rt: &'r R) -> FileShelf<'r, R> {
+    pub fn new(rt: &'r R) -> FileShelf<'r, R>
+        ensures given { result.given ≡ 0 }
+        ensures faults { result.faults ≡ 0 }
+    {
         FileShelf {
             reader: FileReader::new(rt),
             given: 0,
@@ -33,11 +36,11 @@ impl<R: Files + AllocGlobal> Shelf for FileShelf<'_, R> {
 
     fn read(&mut self, name: &str, at: u64, buf: &mut [u8]) -> Result<usize, Failed> {
         match self.reader.read(name, at, buf) {
-            Ok(count) if count <= buf.len() => {
+            Ok(count) => {
                 self.given = self.given.saturating_add(count as u64);
                 Ok(count)
             }
-            _ => {
+            Err(_) => {
                 self.faults = self.faults.saturating_add(1);
                 Err(Failed)
             }

@@ -1,5 +1,7 @@
 //! The words of the command line.
 
+ghost use Rattle.std.specs.Prelude.{◌≡◌, option_copied, slice_get};
+
 use race_top::{NO_MEMORY, USAGE};
 use rc_base::Words;
 use std::env;
@@ -24,7 +26,9 @@ pub fn command_words<R: AllocGlobal + Env>(rt: &R) -> Result<Words, u8> {
 }
 
 /// The path of the proofs' file, which is the fourth word where there is one.
-pub fn proofs_path(words: &Words) -> Option<&str> {
+pub fn proofs_path(words: &Words) -> Option<&str>
+    ensures { option_copied result ≡ slice_get words.now 3 }
+{
     if words.count() > 3 {
         Some(words.word(3))
     } else {

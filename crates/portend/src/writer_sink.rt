@@ -1,6 +1,6 @@
 //! A sink over a writer.
 
-ghost use Rattle.std.specs.Prelude.{None};
+ghost use Rattle.std.specs.Prelude.{◌≡◌, None};
 
 use rc_base::{Failed, Sink};
 use std::io::Write;
@@ -13,7 +13,10 @@ pub struct WriterSink<W> {
 }
 
 impl<W> WriterSink<W> {
-    pub fn new(writer: W) -> WriterSink<W> {
+    pub fn new(writer: W) -> WriterSink<W>
+        ensures writer { result.writer ≡ writer }
+        ensures faults { result.faults ≡ 0 }
+    {
         WriterSink { writer, faults: 0 }
     }
 }
@@ -28,7 +31,7 @@ impl<W: Write> Sink for WriterSink<W> {
             return Ok(0);
         }
         match self.writer.write(piece) {
-            Ok(count) if count > 0 && count <= piece.len() => Ok(count),
+            Ok(count) if count > 0 => Ok(count),
             _ => {
                 self.faults = self.faults.saturating_add(1);
                 Err(Failed)
