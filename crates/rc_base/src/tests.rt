@@ -211,7 +211,7 @@ fn a_write_takes_what_there_is_room_for(rt: HostRuntime) -> Result<(), Fail> {
     Ok(())
 }
 
-fn enter<G: Gate>(gate: &G, ticket: u64) {
+fn enter<G: Gate + Send + Sync>(gate: &G, ticket: u64) {
     gate.entered(0, ticket);
 }
 
