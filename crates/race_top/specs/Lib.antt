@@ -1,6 +1,11 @@
 pub mod Command
+pub mod ConcreteMachine
 pub mod Due
 pub mod File
 pub mod Files
+pub mod MachineAdvance
+pub mod MachineFrame
+pub mod MachineTurns
 pub mod Refusal
+pub mod Runnable
 pub mod Status

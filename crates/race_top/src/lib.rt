@@ -1,14 +1,24 @@
 //! The program over any shelf, sinks and gate.
 //!
-//! - `command`: what the words of the command line ask for
-//! - `file`: the files that a command names
-//! - `files`: reading them, whole and in order
-//! - `refusal`: why a request is refused, and where
-//! - `status`: the exit statuses
 //! - `top`: the call `run`, which does all of it
+//! - `command`: what the words of the command line ask for
+//! - `file`, `files`: the files that a command names, read whole and in order
+//! - `answer`, `stop`: the text that they are due, or why there is none
+//! - `refusal`, `status`: the line of a refused request, and the exit statuses
+//! - `laws`: what holds of every text and run
+//!
+//! What `answer` stands on, in the order of the data:
+//!
+//! - `ir_lex`, `ir_read`, `ir_check`: the tokens of a module's lines, their forms, and the checked module
+//! - `case_text`: the case that a text spells
+//! - `concrete_machine`: turns of threads over a state that is changed in place
+//! - `turn_policy`: the chooser that follows a list of turns
+//! - `trace_replay`: the recorded run
+//! - `report_text`: the text of a replayed run
 #![tactic(auto)]
 
 mod command;
+mod concrete_machine;
 mod file;
 mod files;
 mod refusal;

@@ -1,0 +1,4 @@
+pub mod MachineAdvance
+pub mod MachineMemory
+pub mod OperationLemmas
+pub mod TurnLemmas
