@@ -1,4 +1,9 @@
+pub mod Choices
+pub mod Courses
 pub mod MachineAdvance
 pub mod MachineMemory
+pub mod NotEnabled
 pub mod OperationLemmas
+pub mod Refusals
+pub mod Replays
 pub mod TurnLemmas

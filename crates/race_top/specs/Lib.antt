@@ -7,5 +7,8 @@ pub mod MachineAdvance
 pub mod MachineFrame
 pub mod MachineTurns
 pub mod Refusal
+pub mod ReplayLaws
 pub mod Runnable
 pub mod Status
+pub mod TraceReplay
+pub mod TurnPolicy

@@ -24,6 +24,8 @@ mod files;
 mod refusal;
 mod status;
 mod top;
+mod trace_replay;
+mod turn_policy;
 
 pub use command::Command;
 pub use file::File;

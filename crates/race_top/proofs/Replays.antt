@@ -1,0 +1,140 @@
+-- A run's turns begin with those of each course on its way; given back as the list, they are chosen again.
+use Rattle.std.proofs.Common.{◌≡◌, ℕ, zero, suc, ◌+◌, List, ◌∷◌, [], ◌++◌, length, Option, Some, None, refl, sym, ◌∙◌, append_assoc, arith, length-append}
+use Rattle.std.specs.Prelude.{slice_get}
+use Rattle.std.proofs.lemmas.List.{append-nil}
+use Rattle.machine_model.specs.declared.run.Run.{Run}
+use Rattle.machine_model.specs.declared.run.TurnEnd.{TurnEnd}
+use Rattle.machine_model.specs.declared.run.TurnEnd.TheVariants as ends
+use Rattle.machine_model.specs.Enabled.{enabled}
+use Rattle.machine_model.specs.Follow.{Choice, Follow, at_front, choose}
+use Rattle.machine_model.specs.Laws.{ChoiceIsEnabled, ChoosesUnlessNone, ListedIsChosen}
+use Rattle.machine_model.specs.Run.{Course, advanced, advanced_by, advanced_with, after_turn, begun, onward_or_told, run_from, run_of}
+use Rattle.machine_model.specs.Setting.{Setting}
+use Rattle.machine_model.specs.Turn.{turn}
+
+-- a list goes on from a front
+abbrev pub Begins : List ℕ → List ℕ → Type 0
+Begins front whole = (rest : List ℕ) × (whole ≡ front ++ rest)
+
+Begins-itself : (front : List ℕ) → Begins front front
+Begins-itself front = ([], sym (append-nil front))
+
+Begins-less : (front : List ℕ) (thread : ℕ) (whole : List ℕ) → Begins (front ++ thread ∷ []) whole → Begins front whole
+Begins-less front thread whole begins =
+    (thread ∷ begins.0, begins.1 ∙ append_assoc front (thread ∷ []) begins.0)
+
+pub slice_get-after : (front : List ℕ) (thread : ℕ) (rest : List ℕ) →
+    slice_get (front ++ thread ∷ rest) (length front) ≡ Some thread
+slice_get-after [] thread rest = refl
+slice_get-after (first ∷ front) thread rest = slice_get-after front thread rest
+
+-- a front and the next turn, and what follows
+pub next-in : (front : List ℕ) (thread : ℕ) (whole rest : List ℕ) → whole ≡ (front ++ thread ∷ []) ++ rest →
+    slice_get whole (length front) ≡ Some thread
+next-in front thread whole rest is = rw (is, append_assoc) (slice_get-after front thread rest)
+
+advanced_by-begins : (go : Course → Run) (thread : ℕ) (next : Course) (end : TurnEnd) →
+    Begins next.turns (go next).turns → Begins next.turns (onward_or_told go (advanced_by thread next end)).turns
+advanced_by-begins go thread next ends.Going begins = begins
+advanced_by-begins go thread next (ends.Exit status) begins = Begins-itself next.turns
+advanced_by-begins go thread next (ends.Trap trap site) begins = Begins-itself next.turns
+advanced_by-begins go thread next ends.Spent begins = Begins-itself next.turns
+
+-- what is left from a course on begins with its turns
+abbrev pub Continues : (Course → Run) → Type 0
+Continues go = (next : Course) → Begins next.turns (go next).turns
+
+-- and with the one that is chosen
+pub chosen-begins : (go : Course → Run) (setting : Setting) (course : Course) (choice : Choice) → Continues go →
+    Begins (course.turns ++ choice.thread ∷ []) (onward_or_told go (advanced_with setting course (Some choice))).turns
+chosen-begins go setting course choice continues =
+    let turned = turn setting course.state choice.thread course.left in
+    let next = after_turn course choice turned in
+    advanced_by-begins go choice.thread next turned.end (continues next)
+
+advanced_with-begins : (go : Course → Run) (setting : Setting) (course : Course) (choice : Option Choice) →
+    Continues go → Begins course.turns (onward_or_told go (advanced_with setting course choice)).turns
+advanced_with-begins go setting course None continues = Begins-itself course.turns
+advanced_with-begins go setting course (Some choice) continues =
+    Begins-less course.turns choice.thread (onward_or_told go (advanced_with setting course (Some choice))).turns
+    (chosen-begins go setting course choice continues)
+
+pub run_from-begins : (most : ℕ) (setting : Setting) (listed : List ℕ) (course : Course) →
+    Begins course.turns (run_from most setting listed course).turns
+unfolding run_from advanced
+run_from-begins zero setting listed course = Begins-itself course.turns
+run_from-begins (suc most) setting listed course =
+    advanced_with-begins (run_from most setting listed) setting course
+    (choose listed course.follow (enabled setting course.state)) (run_from-begins most setting listed)
+
+-- the same course with another chooser
+abbrev followed : Follow → Course → Course
+followed follow course = record course { follow = follow }
+
+-- from here on the runs are the same, where the list goes on as the first one does
+abbrev Agree : List ℕ → (Course → Run) → (Course → Run) → Type 0
+Agree again go other = (next : Course) (follow : Follow) → follow.position ≡ length next.turns →
+    again ≡ (go next).turns → other (followed follow next) ≡ go next
+
+advanced_by-agree : (again : List ℕ) (go other : Course → Run) (thread : ℕ) (next : Course) (follow : Follow) (end : TurnEnd) →
+    Agree again go other → follow.position ≡ length next.turns →
+    again ≡ (onward_or_told go (advanced_by thread next end)).turns →
+    onward_or_told other (advanced_by thread (followed follow next) end) ≡ onward_or_told go (advanced_by thread next end)
+advanced_by-agree again go other thread next follow ends.Going agree at same = agree next follow at same
+advanced_by-agree again go other thread next follow (ends.Exit status) agree at same = refl
+advanced_by-agree again go other thread next follow (ends.Trap trap site) agree at same = refl
+advanced_by-agree again go other thread next follow ends.Spent agree at same = refl
+
+-- the laws of the chooser
+pub record Chooser : Type 0 where
+  pub is_enabled : ChoiceIsEnabled
+  pub is_some : ChoosesUnlessNone
+  pub is_listed : ListedIsChosen
+
+choose-nothing : (listed : List ℕ) (follow : Follow) (threads : List ℕ) → threads ≡ [] → choose listed follow threads ≡ None
+unfolding choose
+choose-nothing listed follow threads none = rw none refl
+
+advanced_with-agree : Chooser → (again : List ℕ) (go other : Course → Run) (setting : Setting) (listed : List ℕ)
+    (course : Course) (follow : Follow) (one two : Option Choice) →
+    choose listed course.follow (enabled setting course.state) ≡ one →
+    choose again follow (enabled setting course.state) ≡ two →
+    Agree again go other → Continues go → follow.position ≡ length course.turns →
+    again ≡ (onward_or_told go (advanced_with setting course one)).turns →
+    onward_or_told other (advanced_with setting (followed follow course) two)
+    ≡ onward_or_told go (advanced_with setting course one)
+advanced_with-agree laws again go other setting listed course follow None None first second agree continues at same = refl
+advanced_with-agree laws again go other setting listed course follow None (Some choice) first second agree continues at same =
+    let none = choose-nothing again follow (enabled setting course.state)
+    (laws.is_some listed course.follow (enabled setting course.state) first) in
+    absurd (let h : ⊥ = cc in h)
+advanced_with-agree laws again go other setting listed course follow (Some choice) None first second agree continues at same =
+    let none = choose-nothing listed course.follow (enabled setting course.state)
+    (laws.is_some again follow (enabled setting course.state) second) in
+    absurd (let h : ⊥ = cc in h)
+advanced_with-agree laws again go other setting listed course follow (Some choice) (Some other_choice) first second agree continues at same =
+    let begins = chosen-begins go setting course choice continues in
+    let among = laws.is_enabled listed course.follow (enabled setting course.state) choice first in
+    let next : slice_get again follow.position ≡ Some choice.thread =
+    rw at (next-in course.turns choice.thread again begins.0 (same ∙ begins.1)) in
+    let picks = laws.is_listed again follow (enabled setting course.state) other_choice choice.thread next among second in
+    let turned = turn setting course.state choice.thread course.left in
+    rw picks.0
+    (advanced_by-agree again go other choice.thread (after_turn course choice turned) other_choice.next turned.end agree
+    (omega (arith, picks.1, length-append course.turns (choice.thread ∷ []))) same)
+
+run_from-agree : Chooser → (again : List ℕ) (most : ℕ) (setting : Setting) (listed : List ℕ) →
+    Agree again (run_from most setting listed) (run_from most setting again)
+unfolding run_from advanced
+run_from-agree laws again zero setting listed = λ course follow at same. refl
+run_from-agree laws again (suc most) setting listed = λ course follow at same.
+    advanced_with-agree laws again (run_from most setting listed) (run_from most setting again) setting listed course follow
+    (choose listed course.follow (enabled setting course.state)) (choose again follow (enabled setting course.state))
+    refl refl (run_from-agree laws again most setting listed) (run_from-begins most setting listed) at same
+
+pub run_of-turns : Chooser → (setting : Setting) (listed : List ℕ) (steps : ℕ) →
+    run_of setting (run_of setting listed steps).turns steps ≡ run_of setting listed steps
+unfolding run_of
+run_of-turns laws setting listed steps =
+    run_from-agree laws (run_from (steps + 1) setting listed (begun setting steps)).turns (steps + 1) setting listed
+    (begun setting steps) at_front refl refl

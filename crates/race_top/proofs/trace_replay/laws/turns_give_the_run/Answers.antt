@@ -1,0 +1,9 @@
+use Rattle.race_top.proofs.Replays.{run_of-turns}
+use Rattle.race_top.proofs.trace_replay.laws.turns_give_the_run.Goals as goal
+
+pub returns : goal.returns
+returns c = run_of-turns (record {
+  is_enabled = c.chooser_follows_the_list.ensures.enabled;
+  is_some = c.chooser_follows_the_list.ensures.some;
+  is_listed = c.chooser_follows_the_list.ensures.listed;
+})

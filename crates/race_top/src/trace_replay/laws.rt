@@ -1,0 +1,25 @@
+//! Laws of the recorded run. No function here does anything; each one's contract is a theorem.
+
+ghost use Rattle.race_top.specs.ReplayLaws.{ListedAreTaken, RefusedIsNotEnabled, RunTakesItsTurns, TurnsGiveTheRun};
+
+use machine_model::laws::chooser_follows_the_list;
+
+/// What a run prints can be replayed: its turns, recorded, give the same run again.
+pub fn turns_give_the_run()
+    ensures { TurnsGiveTheRun }
+{
+    chooser_follows_the_list();
+}
+
+/// The refusals are exact: a run that was not spent takes its own turns, and what is not refused was taken.
+pub fn refusals_are_exact()
+    ensures own { RunTakesItsTurns }
+    ensures taken { ListedAreTaken }
+{}
+
+/// A thread is refused as not enabled only where it isn't.
+pub fn refused_is_not_enabled()
+    ensures { RefusedIsNotEnabled }
+{
+    chooser_follows_the_list();
+}
