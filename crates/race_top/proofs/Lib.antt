@@ -1,9 +1,16 @@
 pub mod Choices
 pub mod Courses
+pub mod IrLines
+pub mod Layouts
+pub mod Literals
 pub mod MachineAdvance
 pub mod MachineMemory
 pub mod NotEnabled
 pub mod OperationLemmas
+pub mod Readings
 pub mod Refusals
 pub mod Replays
+pub mod Sigils
+pub mod Spellings
+pub mod Tokens
 pub mod TurnLemmas

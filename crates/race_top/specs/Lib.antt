@@ -3,6 +3,10 @@ pub mod ConcreteMachine
 pub mod Due
 pub mod File
 pub mod Files
+pub mod IrLex
+pub mod IrLexLaws
+pub mod IrRead
+pub mod IrSpelling
 pub mod MachineAdvance
 pub mod MachineFrame
 pub mod MachineTurns

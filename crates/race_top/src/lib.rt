@@ -21,6 +21,8 @@ mod command;
 mod concrete_machine;
 mod file;
 mod files;
+mod ir_lex;
+mod ir_read;
 mod refusal;
 mod status;
 mod top;
