@@ -1,6 +1,11 @@
 pub mod Choices
 pub mod Courses
+pub mod IrBuilds
 pub mod IrLines
+pub mod IrLists
+pub mod IrNumbers
+pub mod IrSmall
+pub mod IrTables
 pub mod Layouts
 pub mod Literals
 pub mod MachineAdvance

@@ -3,10 +3,17 @@ pub mod ConcreteMachine
 pub mod Due
 pub mod File
 pub mod Files
+pub mod IrBuild
+pub mod IrCheck
+pub mod IrLayout
 pub mod IrLex
 pub mod IrLexLaws
+pub mod IrNames
+pub mod IrNumber
 pub mod IrRead
+pub mod IrScope
 pub mod IrSpelling
+pub mod IrTable
 pub mod MachineAdvance
 pub mod MachineFrame
 pub mod MachineTurns

@@ -21,6 +21,7 @@ mod command;
 mod concrete_machine;
 mod file;
 mod files;
+mod ir_check;
 mod ir_lex;
 mod ir_read;
 mod refusal;
