@@ -1,3 +1,11 @@
+pub mod CaseAccepted
+pub mod CaseBodies
+pub mod CaseInput
+pub mod CaseLines
+pub mod CaseNumber
+pub mod CaseParts
+pub mod CaseSpelled
+pub mod CaseTurns
 pub mod Choices
 pub mod Courses
 pub mod IrBuilds

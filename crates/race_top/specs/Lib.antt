@@ -1,3 +1,8 @@
+pub mod CaseBody
+pub mod CaseFault
+pub mod CaseSpelling
+pub mod CaseText
+pub mod CaseWords
 pub mod Command
 pub mod ConcreteMachine
 pub mod Due

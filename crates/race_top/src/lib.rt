@@ -17,6 +17,7 @@
 //! - `report_text`: the text of a replayed run
 #![tactic(auto)]
 
+mod case_text;
 mod command;
 mod concrete_machine;
 mod file;
