@@ -23,6 +23,10 @@ pub mod OperationLemmas
 pub mod Readings
 pub mod Refusals
 pub mod Replays
+pub mod ReportDigits
+pub mod ReportMaximal
+pub mod ReportRuns
+pub mod ReportWords
 pub mod Sigils
 pub mod Spellings
 pub mod Tokens

@@ -24,6 +24,10 @@ pub mod MachineFrame
 pub mod MachineTurns
 pub mod Refusal
 pub mod ReplayLaws
+pub mod ReportItems
+pub mod ReportLaws
+pub mod ReportText
+pub mod ReportTurns
 pub mod Runnable
 pub mod Status
 pub mod TraceReplay

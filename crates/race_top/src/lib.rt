@@ -26,6 +26,7 @@ mod ir_check;
 mod ir_lex;
 mod ir_read;
 mod refusal;
+mod report_text;
 mod status;
 mod top;
 mod trace_replay;
