@@ -1,11 +1,12 @@
 -- What reading the files answers, and what the counts of the shelf say of it.
-use Rattle.std.specs.Prelude.{◌≡◌, ℕ, ◌<◌, ◌≤◌, List, length, Some, None, Result, Ok, Err, Vec}
+use Rattle.std.specs.Prelude.{◌≡◌, ℕ, ◌<◌, ◌≤◌, List, length, Some, None, Result, Ok, Err, Vec, vec_len}
 use Rattle.std.specs.declared.alloc.Global.{Global}
 use Rattle.rc_base.specs.Counts.{Rose}
 use Rattle.race_top.specs.declared.file.File.{File}
+use Rattle.race_top.specs.declared.file.File.TheVariants as kinds
 use Rattle.race_top.specs.declared.files.Files.{Files}
-use Rattle.race_top.specs.declared.files.Stop.{Stop}
-use Rattle.race_top.specs.declared.files.Stop.TheVariants as stops
+use Rattle.race_top.specs.declared.stop.Stop.{Stop}
+use Rattle.race_top.specs.declared.stop.Stop.TheVariants as stops
 use Rattle.race_top.specs.declared.refusal.Refusal.TheVariants.{TooLong}
 use Rattle.race_top.specs.Due.{too_long}
 use Rattle.race_top.specs.File.{limit_of}
@@ -39,3 +40,8 @@ pub record HasCauses {A : Type 0} (result : Result A Stop) (faults_before faults
   pub faults : faults_before ≤ faults_now
   pub given : given_before ≤ given_now
   pub cause : Causes result faults_before faults_now given_before given_now
+
+-- the files are within their limits
+pub record AreWithin (found : Files) : Type 0 where
+  pub code : vec_len found.module ≤ limit_of kinds.Module
+  pub case : vec_len found.case ≤ limit_of kinds.Case

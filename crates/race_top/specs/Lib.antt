@@ -1,3 +1,4 @@
+pub mod Answer
 pub mod CaseBody
 pub mod CaseFault
 pub mod CaseSpelling
@@ -30,5 +31,6 @@ pub mod ReportText
 pub mod ReportTurns
 pub mod Runnable
 pub mod Status
+pub mod Stop
 pub mod TraceReplay
 pub mod TurnPolicy

@@ -1,16 +1,28 @@
 -- The line that a refused request is answered with.
 use Rattle.std.specs.Prelude.{ℕ, List, ◌++◌, codes, decimal}
 use Rattle.race_top.specs.declared.refusal.Refusal.{Refusal}
-use Rattle.race_top.specs.declared.refusal.Refusal.TheVariants.{TooLong, ModuleUnsupported}
+use Rattle.race_top.specs.declared.refusal.Refusal.TheVariants.{TooLong, ModuleUnsupported, ModuleBadShape, CaseSyntax, CaseRange, ReplayTurnNotEnabled, ReplayEndsEarly, ReplaySpent}
 use Rattle.race_top.specs.File.{number_of}
 
 abbrev pub name_of : Refusal → List ℕ
 name_of (TooLong file) = codes "TooLong"
 name_of (ModuleUnsupported line) = codes "ModuleUnsupported"
+name_of (ModuleBadShape line) = codes "ModuleBadShape"
+name_of (CaseSyntax line) = codes "CaseSyntax"
+name_of (CaseRange line) = codes "CaseRange"
+name_of (ReplayTurnNotEnabled turn) = codes "ReplayTurnNotEnabled"
+name_of (ReplayEndsEarly turn) = codes "ReplayEndsEarly"
+name_of (ReplaySpent turn) = codes "ReplaySpent"
 
 abbrev pub place_of : Refusal → ℕ
 place_of (TooLong file) = number_of file
 place_of (ModuleUnsupported line) = line
+place_of (ModuleBadShape line) = line
+place_of (CaseSyntax line) = line
+place_of (CaseRange line) = line
+place_of (ReplayTurnNotEnabled turn) = turn
+place_of (ReplayEndsEarly turn) = turn
+place_of (ReplaySpent turn) = turn
 
 -- `refused NAME PLACE` and a line feed
 abbrev pub refusal_line : Refusal → List ℕ

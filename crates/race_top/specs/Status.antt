@@ -1,16 +1,23 @@
 -- What the exit status says of what was read and written, also where no bytes are told.
 use Rattle.std.specs.Prelude.{◌≡◌, ℕ, ◌+◌, ◌⊎◌, List, Option}
+use Rattle.ir_types.specs.declared.«module».Module.{Module}
+use Rattle.machine_model.specs.declared.run.Run.{Run}
 use Rattle.rc_base.specs.Counts.{RoseBy}
 use Rattle.rc_base.specs.Sink.{Appends}
 use Rattle.rc_base.specs.Write.{AppendsFront}
 use Rattle.race_top.specs.declared.refusal.Refusal.{Refusal}
-use Rattle.race_top.specs.declared.refusal.Refusal.TheVariants.{TooLong, ModuleUnsupported}
+use Rattle.race_top.specs.declared.refusal.Refusal.TheVariants.{TooLong, ModuleUnsupported, ModuleBadShape, CaseSyntax, CaseRange, ReplayTurnNotEnabled, ReplayEndsEarly, ReplaySpent}
 use Rattle.race_top.specs.File.{limit_of}
 use Rattle.race_top.specs.Refusal.{refusal_line}
+use Rattle.race_top.specs.ReportText.{replay_text}
 
--- usage, a failed read, a refusal, a failed write, or want of memory
+-- done, usage, a failed read, a refusal, a failed write, or want of memory
 abbrev pub IsStatus : ℕ → Type 0
-IsStatus status = (status ≡ 2) ⊎ (status ≡ 3) ⊎ (status ≡ 4) ⊎ (status ≡ 5) ⊎ (status ≡ 6)
+IsStatus status = (status ≡ 0) ⊎ (status ≡ 2) ⊎ (status ≡ 3) ⊎ (status ≡ 4) ⊎ (status ≡ 5) ⊎ (status ≡ 6)
+
+-- a text was written whole: an answer's, or a refusal's line
+abbrev pub IsWhole : ℕ → Type 0
+IsWhole status = (status ≡ 0) ⊎ (status ≡ 4)
 
 -- nothing was written
 abbrev pub IsSilent : ℕ → Type 0
@@ -20,14 +27,39 @@ IsSilent status = (status ≡ 2) ⊎ (status ≡ 3) ⊎ (status ≡ 6)
 abbrev pub HasPlace : Refusal → ℕ → ℕ → Type 0
 HasPlace (TooLong file) before now = RoseBy before now (limit_of file + 1)
 HasPlace (ModuleUnsupported line) before now = Unit {0}
+HasPlace (ModuleBadShape line) before now = Unit {0}
+HasPlace (CaseSyntax line) before now = Unit {0}
+HasPlace (CaseRange line) before now = Unit {0}
+HasPlace (ReplayTurnNotEnabled turn) before now = Unit {0}
+HasPlace (ReplayEndsEarly turn) before now = Unit {0}
+HasPlace (ReplaySpent turn) before now = Unit {0}
 
--- a refusal's line was written whole, or a front of it
+-- the text is a refusal's line
+pub record IsRefusal (text : List ℕ) (given_before given_now : ℕ) : Type 0 where
+  pub refusal : Refusal
+  pub place : HasPlace refusal given_before given_now
+  pub line : text ≡ refusal_line refusal
+
+-- the text is that of a replayed run
+pub record IsReplay (text : List ℕ) : Type 0 where
+  pub run : Run
+  pub code : Module
+  pub whole : text ≡ replay_text run code
+
+-- a refusal's line was written whole
 pub record WritesRefusal (before now : Option (List ℕ)) (given_before given_now : ℕ) : Type 0 where
-  pub refusal : Refusal
-  pub place : HasPlace refusal given_before given_now
-  pub text : Appends before now (refusal_line refusal)
+  pub text : List ℕ
+  pub line : IsRefusal text given_before given_now
+  pub written : Appends before now text
 
-pub record WritesFrontOfRefusal (before now : Option (List ℕ)) (given_before given_now : ℕ) : Type 0 where
-  pub refusal : Refusal
-  pub place : HasPlace refusal given_before given_now
-  pub text : AppendsFront before now (refusal_line refusal)
+-- a replayed run was written whole
+pub record WritesReplay (before now : Option (List ℕ)) : Type 0 where
+  pub text : List ℕ
+  pub replay : IsReplay text
+  pub written : Appends before now text
+
+-- a front of either was written
+pub record WritesFront (before now : Option (List ℕ)) (given_before given_now : ℕ) : Type 0 where
+  pub text : List ℕ
+  pub either : IsRefusal text given_before given_now ⊎ IsReplay text
+  pub written : AppendsFront before now text

@@ -1,23 +1,17 @@
 //! Reading the files that a command names, whole and in order.
 
-ghost use Rattle.std.specs.Prelude.{◌≡◌, ℕ, List, IfSome};
+ghost use Rattle.std.specs.Prelude.{◌≡◌, ℕ, List, ◌≤◌, IfOk, IfSome, vec_len};
 ghost use Rattle.race_top.specs.Due.{Tells};
 ghost use Rattle.race_top.specs.Command.{task_of};
-ghost use Rattle.race_top.specs.Files.{GivesFile, GivesFiles, HasCauses};
+ghost use Rattle.race_top.specs.File.{limit_of};
+ghost use Rattle.race_top.specs.Files.{AreWithin, GivesFile, GivesFiles, HasCauses};
 
 use crate::command::Command;
 use crate::file::File;
 use crate::refusal::Refusal;
+use crate::stop::Stop;
 use rc_base::{ReadWhole, Shelf, read_whole};
 use std::alloc::Global;
-
-/// Why no files are at hand.
-#[derive(Clone, Copy, Debug, PartialEq, Eq)]
-pub enum Stop {
-    ReadFailed,
-    Refused(Refusal),
-    NoMemory,
-}
 
 /// The bytes of the files that a command names.
 #[derive(Debug, Drop)]
@@ -30,6 +24,7 @@ impl Files {
     /// Reads the module's file whole, and then the case's.
     pub fn read<F: Shelf>(alloc: Global, shelf: &mut F, command: Command<'_>) -> Result<Files, Stop>
         ensures whole { (code case : List ℕ) → Tells (F.holds shelf.old) (Some (task_of command.entry)) code case → GivesFiles result code case }
+        ensures within { IfOk result AreWithin }
         ensures cause { HasCauses result (F.faults shelf.old) (F.faults shelf.new) (F.given shelf.old) (F.given shelf.new) }
         ensures told { (other : List ℕ) → F.holds shelf.new other ≡ F.holds shelf.old other }
     {
@@ -48,6 +43,7 @@ fn read_file<F: Shelf>(
     file: File,
 ) -> Result<Vec<u8>, Stop>
     ensures whole { IfSome (F.holds shelf.old name.now) (λ bytes. GivesFile result file bytes) }
+    ensures within { IfOk result (λ bytes. vec_len bytes ≤ limit_of file) }
     ensures cause { HasCauses result (F.faults shelf.old) (F.faults shelf.new) (F.given shelf.old) (F.given shelf.new) }
     ensures told { (other : List ℕ) → F.holds shelf.new other ≡ F.holds shelf.old other }
 {

@@ -17,6 +17,7 @@
 //! - `report_text`: the text of a replayed run
 #![tactic(auto)]
 
+mod answer;
 mod case_text;
 mod command;
 mod concrete_machine;
@@ -25,9 +26,11 @@ mod files;
 mod ir_check;
 mod ir_lex;
 mod ir_read;
+pub mod laws;
 mod refusal;
 mod report_text;
 mod status;
+mod stop;
 mod top;
 mod trace_replay;
 mod turn_policy;

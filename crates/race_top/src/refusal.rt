@@ -1,6 +1,6 @@
 //! Why a request is refused, and where.
 
-ghost use Rattle.std.specs.Prelude.{◌≡◌, codes, IfOk, string_bytes};
+ghost use Rattle.std.specs.Prelude.{◌≡◌, IfOk, string_bytes};
 ghost use Rattle.race_top.specs.Refusal.{name_of, place_of, refusal_line};
 
 use crate::file::File;
@@ -11,8 +11,20 @@ use std::alloc::{AllocError, Global};
 pub enum Refusal {
     /// The file has more bytes than its limit.
     TooLong { file: File },
-    /// The line of the module has a form that is not supported.
+    /// The line of the module has a form that is not supported, or uses or gives a name that it may not.
     ModuleUnsupported { line: u32 },
+    /// At the line of the module the globals pass their limit; at line 0 there is no `main`.
+    ModuleBadShape { line: u32 },
+    /// The line of the case fits no row that may stand there.
+    CaseSyntax { line: u32 },
+    /// A number in the line of the case is out of its bounds.
+    CaseRange { line: u32 },
+    /// The thread of the listed turn is not enabled.
+    ReplayTurnNotEnabled { turn: u32 },
+    /// The run has ended before the listed turn.
+    ReplayEndsEarly { turn: u32 },
+    /// The budget of steps ran out in the listed turn.
+    ReplaySpent { turn: u32 },
 }
 
 impl Refusal {
@@ -23,16 +35,28 @@ impl Refusal {
         match self {
             Refusal::TooLong { .. } => "TooLong",
             Refusal::ModuleUnsupported { .. } => "ModuleUnsupported",
+            Refusal::ModuleBadShape { .. } => "ModuleBadShape",
+            Refusal::CaseSyntax { .. } => "CaseSyntax",
+            Refusal::CaseRange { .. } => "CaseRange",
+            Refusal::ReplayTurnNotEnabled { .. } => "ReplayTurnNotEnabled",
+            Refusal::ReplayEndsEarly { .. } => "ReplayEndsEarly",
+            Refusal::ReplaySpent { .. } => "ReplaySpent",
         }
     }
 
-    /// The file's number, or the line.
+    /// The file's number, the line, or the number of the listed turn.
     pub fn place(self) -> u32
         ensures { result ≡ place_of self }
     {
         match self {
             Refusal::TooLong { file } => file.number(),
-            Refusal::ModuleUnsupported { line } => line,
+            Refusal::ModuleUnsupported { line }
+            | Refusal::ModuleBadShape { line }
+            | Refusal::CaseSyntax { line }
+            | Refusal::CaseRange { line } => line,
+            Refusal::ReplayTurnNotEnabled { turn }
+            | Refusal::ReplayEndsEarly { turn }
+            | Refusal::ReplaySpent { turn } => turn,
         }
     }
 

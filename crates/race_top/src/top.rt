@@ -1,18 +1,22 @@
 //! The whole program: words in, a status and a text out.
 
-ghost use Rattle.std.specs.Prelude.{◌≡◌, ℕ, ◌<◌, ◌≤◌, ◌⊎◌, ◌↔◌, List, Some, IsNone};
+ghost use Rattle.std.specs.Prelude.{◌≡◌, ℕ, ◌<◌, ◌≤◌, ◌⊎◌, ◌↔◌, List, Some, IfOk, IsNone};
 ghost use Rattle.rc_base.specs.Counts.{count_end, Rose};
 ghost use Rattle.rc_base.specs.Sink.{Appends, Keeps};
 ghost use Rattle.rc_base.specs.Write.{AppendsFront};
-ghost use Rattle.race_top.specs.Command.{command_of};
-ghost use Rattle.race_top.specs.Due.{Tells, due, first_refusal, not_served};
-ghost use Rattle.race_top.specs.Status.{IsSilent, IsStatus, WritesFrontOfRefusal, WritesRefusal};
+ghost use Rattle.race_top.specs.Answer.{GivesIfRead};
+ghost use Rattle.race_top.specs.Command.{command_of, task_of};
+ghost use Rattle.race_top.specs.Due.{Tells, answer_in_files, due};
+ghost use Rattle.race_top.specs.Files.{HasCauses};
 ghost use Rattle.race_top.specs.Refusal.{refusal_line};
+ghost use Rattle.race_top.specs.Status.{IsReplay, IsSilent, IsStatus, IsWhole, WritesFront, WritesRefusal, WritesReplay};
 
+use crate::answer::replay_text;
 use crate::command::Command;
-use crate::files::{Files, Stop};
+use crate::files::Files;
 use crate::refusal::Refusal;
-use crate::status::{NO_MEMORY, READ_FAILED, REFUSED, USAGE, WRITE_FAILED};
+use crate::status::{NO_MEMORY, READ_FAILED, REFUSED, USAGE, WHOLE, WRITE_FAILED};
+use crate::stop::Stop;
 use rc_base::{Failed, Gate, Shelf, Sink, Words, write_whole};
 use std::alloc::Global;
 use std::thread::Threads;
@@ -35,16 +39,17 @@ pub fn run<R: Threads + Sync, F: Shelf, O: Sink, P: Sink, G: Gate + Sync>(
     ensures unread { result ≡ USAGE → (F.faults shelf.new ≡ F.faults shelf.old) × (F.given shelf.new ≡ F.given shelf.old) }
 
     // The cause of each status, also where no bytes are told.
+    ensures replay { result ≡ WHOLE → WritesReplay (O.wrote out.old) (O.wrote out.new) }
     ensures read { result ≡ READ_FAILED → Rose (F.faults shelf.old) (F.faults shelf.new) }
     ensures refusal { result ≡ REFUSED → WritesRefusal (O.wrote out.old) (O.wrote out.new) (F.given shelf.old) (F.given shelf.new) }
     ensures write { result ≡ WRITE_FAILED → Rose (O.faults out.old) (O.faults out.new) }
-    ensures front { result ≡ WRITE_FAILED → WritesFrontOfRefusal (O.wrote out.old) (O.wrote out.new) (F.given shelf.old) (F.given shelf.new) }
+    ensures front { result ≡ WRITE_FAILED → WritesFront (O.wrote out.old) (O.wrote out.new) (F.given shelf.old) (F.given shelf.new) }
     ensures silent { IsSilent result → Keeps (O.wrote out.old) (O.wrote out.new) }
     ensures proofs { (P.wrote proofs.new ≡ P.wrote proofs.old) × (P.faults proofs.new ≡ P.faults proofs.old) }
 
     // Where the shelf tells the bytes of the files, these decide.
     ensures due { (code case : List ℕ) → Tells (F.holds shelf.old) (command_of words.now) code case →
-        result ≡ REFUSED → Appends (O.wrote out.old) (O.wrote out.new) (due code case).text }
+        IsWhole result → (result ≡ (due code case).status) × Appends (O.wrote out.old) (O.wrote out.new) (due code case).text }
     ensures due_front { (code case : List ℕ) → Tells (F.holds shelf.old) (command_of words.now) code case →
         result ≡ WRITE_FAILED → AppendsFront (O.wrote out.old) (O.wrote out.new) (due code case).text }
     ensures complete { (code case : List ℕ) → Tells (F.holds shelf.old) (command_of words.now) code case →
@@ -59,23 +64,24 @@ pub fn run<R: Threads + Sync, F: Shelf, O: Sink, P: Sink, G: Gate + Sync>(
     let Some(command) = Command::from_words(words) else {
         return USAGE;
     };
-    let stop = match Files::read(alloc, shelf, command) {
-        Ok(files) => Stop::Refused(refuse(&files)),
-        Err(stop) => stop,
-    };
-    match stop {
-        Stop::ReadFailed => READ_FAILED,
-        Stop::Refused(refusal) => write_refusal(alloc, out, refusal),
-        Stop::NoMemory => NO_MEMORY,
+    match prepare(alloc, shelf, command) {
+        Ok(text) => write_text(out, &text, WHOLE),
+        Err(Stop::ReadFailed) => READ_FAILED,
+        Err(Stop::Refused(refusal)) => write_refusal(alloc, out, refusal),
+        Err(Stop::NoMemory) => NO_MEMORY,
     }
 }
 
-/// Not served yet: no module is read, so each is refused at its first line.
-fn refuse(files: &Files) -> Refusal
-    ensures { result ≡ not_served files.now.module.items files.now.case.items }
+/// Reads the files of a command and makes its text.
+fn prepare<F: Shelf>(alloc: Global, shelf: &mut F, command: Command<'_>) -> Result<Vec<u8>, Stop>
+    ensures due { (code case : List ℕ) → Tells (F.holds shelf.old) (Some (task_of command.entry)) code case →
+        GivesIfRead (λ text. text.items) result (answer_in_files code case) }
+    ensures replay { IfOk result (λ text. IsReplay text.items) }
+    ensures cause { HasCauses result (F.faults shelf.old) (F.faults shelf.new) (F.given shelf.old) (F.given shelf.new) }
+    ensures told { (other : List ℕ) → F.holds shelf.new other ≡ F.holds shelf.old other }
 {
-    let _files = files;
-    Refusal::ModuleUnsupported { line: 1 }
+    let files = Files::read(alloc, shelf, command)?;
+    replay_text(alloc, &files)
 }
 
 /// Writes the line of a refusal, once it is made.
@@ -90,8 +96,20 @@ fn write_refusal<O: Sink>(alloc: Global, out: &mut O, refusal: Refusal) -> u8
     let Ok(line) = refusal.line(alloc) else {
         return NO_MEMORY;
     };
-    match write_whole(out, line.as_bytes()) {
-        Ok(()) => REFUSED,
+    write_text(out, line.as_bytes(), REFUSED)
+}
+
+/// Writes a whole text, and answers `done` where all of it was written.
+fn write_text<O: Sink>(out: &mut O, text: &[u8], done: u8) -> u8
+    requires { IsWhole done }
+    ensures status { (result ≡ done) ⊎ (result ≡ WRITE_FAILED) }
+    ensures all { result ≡ done → Appends (O.wrote out.old) (O.wrote out.new) text.now }
+    ensures front { result ≡ WRITE_FAILED → AppendsFront (O.wrote out.old) (O.wrote out.new) text.now }
+    ensures cause { result ≡ WRITE_FAILED → Rose (O.faults out.old) (O.faults out.new) }
+    ensures kept { O.faults out.old ≤ O.faults out.new }
+{
+    match write_whole(out, text) {
+        Ok(()) => done,
         Err(Failed) => WRITE_FAILED,
     }
 }

@@ -1,0 +1,26 @@
+-- Which stop each error becomes.
+use Rattle.race_top.specs.declared.case_text.error.CaseError.{CaseError}
+use Rattle.race_top.specs.declared.case_text.error.CaseError.TheVariants as case_errors
+use Rattle.race_top.specs.declared.ir_check.ModuleError.{ModuleError}
+use Rattle.race_top.specs.declared.ir_check.ModuleError.TheVariants as module_errors
+use Rattle.race_top.specs.declared.refusal.Refusal.TheVariants.{ModuleUnsupported, ModuleBadShape, CaseSyntax, CaseRange, ReplayTurnNotEnabled, ReplayEndsEarly, ReplaySpent}
+use Rattle.race_top.specs.declared.stop.Stop.{Stop}
+use Rattle.race_top.specs.declared.stop.Stop.TheVariants.{Refused, NoMemory}
+use Rattle.race_top.specs.declared.trace_replay.ReplayError.{ReplayError}
+use Rattle.race_top.specs.declared.trace_replay.ReplayError.TheVariants as replay_errors
+
+abbrev pub stop_of_module : ModuleError → Stop
+stop_of_module (module_errors.Unsupported line) = Refused (ModuleUnsupported line)
+stop_of_module (module_errors.BadShape line) = Refused (ModuleBadShape line)
+stop_of_module module_errors.NoMemory = NoMemory
+
+abbrev pub stop_of_case : CaseError → Stop
+stop_of_case (case_errors.Syntax line) = Refused (CaseSyntax line)
+stop_of_case (case_errors.Range line) = Refused (CaseRange line)
+stop_of_case case_errors.NoMemory = NoMemory
+
+abbrev pub stop_of_replay : ReplayError → Stop
+stop_of_replay (replay_errors.TurnNotEnabled turn) = Refused (ReplayTurnNotEnabled turn)
+stop_of_replay (replay_errors.EndsEarly turn) = Refused (ReplayEndsEarly turn)
+stop_of_replay (replay_errors.Spent turn) = Refused (ReplaySpent turn)
+stop_of_replay replay_errors.NoMemory = NoMemory
