@@ -1,0 +1,11 @@
+@g = global i32 64
+@t = global i64 0
+declare i32 @pthread_create(ptr, ptr, ptr, ptr)
+declare i32 @pthread_join(i64, ptr)
+declare i32 @putchar(i32)
+define ptr @a(ptr %q) {
+  %l = load i32, ptr @g
+  %m = add i32 %l, 1
+  store i32 %m, ptr @g
+  ret ptr null
+}
