@@ -1,7 +1,7 @@
 //! Values at the edges of each width, worked out by the rules of the LLVM Language Reference.
 
 use crate::operation::{BinOp, CmpOp, ConvOp, OpTrap};
-use crate::word::{Width, Word};
+use crate::word::{Kind, Width, Word};
 use crate::{Input, List, Slot, binary, compare, convert};
 use std::alloc::AllocError;
 use std::test::Fail;
@@ -255,4 +255,22 @@ fn lists_and_inputs(rt: HostRuntime) -> Result<(), Fail> {
     assert_ne!(rt; copy, none);
     assert_eq!(rt; copy.slots.into_vec().as_slice(), input.slots.as_slice());
     Ok(())
+}
+
+/// Sizes as in the data layout of x86-64: a pointer has 8 bytes, and an `i1` takes a byte.
+#[test]
+fn kinds_have_their_sizes(rt: HostRuntime) {
+    let table = [
+        (Kind::Int(Width::W1), Width::W1, 1),
+        (Kind::Int(Width::W8), Width::W8, 1),
+        (Kind::Int(Width::W16), Width::W16, 2),
+        (Kind::Int(Width::W32), Width::W32, 4),
+        (Kind::Int(Width::W64), Width::W64, 8),
+        (Kind::Ptr, Width::W64, 8),
+    ];
+    for (kind, width, size) in table {
+        assert_eq!(rt; kind.width(), width);
+        assert_eq!(rt; kind.size(), size);
+        assert_eq!(rt; width.bytes(), size);
+    }
 }

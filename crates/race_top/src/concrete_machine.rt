@@ -3,7 +3,6 @@
 //! - `setting`: what stays the same in a run
 //! - `code`: the instruction at a place
 //! - `frame`: the frame of a thread that runs
-//! - `kind`: widths and sizes of kinds
 //! - `visible`: which instructions wait for a turn of their own
 //! - `operand`: the numbers of operands and the numbers that an instruction decides
 //! - `memory`: reading and writing objects
@@ -20,7 +19,6 @@ mod call;
 mod code;
 mod effect;
 mod frame;
-mod kind;
 mod memory;
 mod operand;
 mod operation;

@@ -12,7 +12,6 @@ ghost use Rattle.race_top.specs.ConcreteMachine.{Effects, footprint};
 ghost use Rattle.race_top.specs.MachineFrame.{HasNext};
 
 use crate::concrete_machine::frame::{pass, running, set};
-use crate::concrete_machine::kind::{size_of, width_of};
 use crate::concrete_machine::memory::{read, write};
 use crate::concrete_machine::operand::{value_of, value_of_binary};
 use crate::concrete_machine::setting::Setting;
@@ -61,9 +60,9 @@ fn load(thread: &mut Thread, objects: &[Object], to: u32, kind: Kind, at: u64) -
         (done_or_traps (λ value. sets (footprint thread.old objects.now) frame to (value % 2 ^ bits_of (width_of kind)))
         (read objects.now at (size_of kind))) }
 {
-    match read(objects, at, size_of(kind)) {
+    match read(objects, at, kind.size()) {
         Ok(number) => {
-            let word = Word::truncated(width_of(kind), number);
+            let word = Word::truncated(kind.width(), number);
             set(thread, to, word.bits);
             Effect::Done
         }
@@ -79,8 +78,8 @@ fn store(thread: &mut Thread, objects: &mut [Object], kind: Kind, value: Operand
         (done_or_traps (stores (footprint thread.old objects.old) frame)
         (written objects.old at (size_of kind) (value_of frame value % 2 ^ bits_of (width_of kind)))) }
 {
-    let word = Word::truncated(width_of(kind), value_of(running(thread), value));
-    match write(objects, at, size_of(kind), word.bits) {
+    let word = Word::truncated(kind.width(), value_of(running(thread), value));
+    match write(objects, at, kind.size(), word.bits) {
         Ok(()) => {
             pass(thread);
             Effect::Done

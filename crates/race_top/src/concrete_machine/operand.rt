@@ -4,7 +4,6 @@ ghost use Rattle.std.specs.Prelude.{◌≡◌, ◌++◌, OnOk, map, slice_index}
 ghost use Rattle.machine_model.specs.Decision.{is_tested, outcomes_of, places_of, places_of_call, test_of, value_of_binary};
 ghost use Rattle.machine_model.specs.Thread.{value_of, width_of_operand};
 
-use crate::concrete_machine::kind::width_of;
 use ir_types::{BinOp, Extern, Inst, Kind, Module, OpTrap, Operand, Width, Word, binary};
 use machine_model::{Frame, Object};
 use rc_base::NoMemory;
@@ -29,10 +28,10 @@ fn width_of_operand(code: &Module, frame: &Frame, operand: Operand) -> Width
     match operand {
         Operand::Register(register) => {
             let Some(function) = code.functions.items.get(frame.function as usize) else {
-                return width_of(Kind::Ptr);
+                return Kind::Ptr.width();
             };
             let kind = function.registers.items.get(register as usize);
-            width_of(kind.copied().unwrap_or(Kind::Ptr))
+            kind.copied().unwrap_or(Kind::Ptr).width()
         }
         Operand::Constant(word) => word.width,
     }

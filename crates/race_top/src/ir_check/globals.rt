@@ -1,12 +1,11 @@
 //! The globals of a module with their addresses, and the limit on their sizes.
 
 ghost use Rattle.std.specs.Prelude.{◌≡◌, ◌+◌, ◌<◌, ◌≤◌, ◌^◌, ◌++◌, length, IfOk, IfSome, OnOk};
-ghost use Rattle.ir_types.specs.Kind.{bytes_of_width};
 ghost use Rattle.race_top.specs.IrLayout.{base_after, bytes_made, global_at, globals_of, made_at, next_base, too_large};
 ghost use Rattle.race_top.specs.IrNames.{in_form};
 
 use crate::ir_read::{Form, Line};
-use ir_types::{GlobalVar, List, Width};
+use ir_types::{GlobalVar, List};
 use rc_base::NoMemory;
 use std::alloc::Global;
 
@@ -16,25 +15,13 @@ const MOST_BYTES: u64 = 1 << 20;
 /// The address of the first global.
 const FIRST_BASE: u64 = 1 << 32;
 
-fn size_of(width: Width) -> u8
-    ensures size { result ≡ bytes_of_width width }
-    ensures small { result ≤ 8 }
-{
-    match width {
-        Width::W1 | Width::W8 => 1,
-        Width::W16 => 2,
-        Width::W32 => 4,
-        Width::W64 => 8,
-    }
-}
-
 /// How many bytes of globals a line makes.
-fn bytes_made(line: &Line<'_>) -> u8
+fn bytes_made(line: &Line<'_>) -> u64
     ensures size { result ≡ bytes_made line.now }
     ensures small { result ≤ 8 }
 {
     match line {
-        Line::Form(Form::Global { width, .. }) => size_of(*width),
+        Line::Form(Form::Global { width, .. }) => width.bytes(),
         _ => 0,
     }
 }
@@ -47,7 +34,7 @@ pub fn too_large(lines: &[Line<'_>]) -> Option<u32>
     let mut used = 0;
     for (index, line) in lines.iter().enumerate() {
         let made = bytes_made(line);
-        used += u64::from(made);
+        used += made;
         if used > MOST_BYTES {
             return Some(index as u32 + 1);
         }
@@ -71,13 +58,13 @@ fn global_at(alloc: Global, line: &Line<'_>, base: u64) -> Result<Option<GlobalV
     let Line::Form(Form::Global { name, width, value }) = line else {
         return Ok(None);
     };
-    let size = size_of(*width);
+    let size = width.bytes();
     let bytes = value.to_le_bytes();
     let name = Vec::from_slice(alloc, name.text)?;
-    let image = Vec::from_slice(alloc, &bytes[..usize::from(size)])?;
+    let image = Vec::from_slice(alloc, &bytes[..size as usize])?;
     Ok(Some(GlobalVar {
         name: List { items: name },
-        size: u64::from(size),
+        size,
         constant: false,
         base,
         image: List { items: image },

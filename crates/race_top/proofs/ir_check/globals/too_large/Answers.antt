@@ -4,13 +4,13 @@ use Rattle.race_top.proofs.ir_check.globals.too_large.Goals as goal
 
 pub returns-then-used-gt-MOST_BYTES : goal.returns-then-used-gt-MOST_BYTES
 returns-then-used-gt-MOST_BYTES c =
-    sym (limit_passed c.args.lines.now c.loop-index.index c.index-lines-index.result c.loop-index.used c.from-used.result (omega arith) c.index-lines-index.is (c.from-used.ensures ∙ c.bytes_made-made.ensures.size) (omega arith))
+    sym (limit_passed c.args.lines.now c.loop-index.index c.index-lines-index.result c.loop-index.used c.bytes_made-made.result (omega arith) c.index-lines-index.is c.bytes_made-made.ensures.size (omega arith))
     ∙ c.loop-index.invariant.rest
 
 pub loop-index-preserved : goal.loop-index-preserved
 loop-index-preserved c = record {
   small = omega arith;
-  rest = sym (limit_kept c.args.lines.now c.loop-index.index c.index-lines-index.result c.loop-index.used c.from-used.result (omega arith) c.index-lines-index.is (c.from-used.ensures ∙ c.bytes_made-made.ensures.size) (omega arith))
+  rest = sym (limit_kept c.args.lines.now c.loop-index.index c.index-lines-index.result c.loop-index.used c.bytes_made-made.result (omega arith) c.index-lines-index.is c.bytes_made-made.ensures.size (omega arith))
       ∙ c.loop-index.invariant.rest;
 }
 
