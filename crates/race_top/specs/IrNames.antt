@@ -63,17 +63,12 @@ name_as roles.Global = global_name
 name_as roles.Thread = thread_name
 name_as roles.Function = function_name
 
-abbrev pub declares_create : Form → Bool
-declares_create (Declare callees.Create) = true
-declares_create _ = false
-
-abbrev pub declares_join : Form → Bool
-declares_join (Declare callees.Join) = true
-declares_join _ = false
-
-abbrev pub declares_putchar : Form → Bool
-declares_putchar (Declare callees.Putchar) = true
-declares_putchar _ = false
+-- whether the form declares the external call
+abbrev pub declares : Callee → Form → Bool
+declares callees.Create (Declare callees.Create) = true
+declares callees.Join (Declare callees.Join) = true
+declares callees.Putchar (Declare callees.Putchar) = true
+declares _ _ = false
 
 abbrev pub is_define_main : Form → Bool
 is_define_main DefineMain = true

@@ -8,6 +8,7 @@ use Rattle.race_top.specs.declared.ir_check.place.Place.{Place}
 use Rattle.race_top.specs.declared.ir_check.place.Place.TheVariants as places
 use Rattle.race_top.specs.declared.ir_check.scope.Scope.{Scope}
 use Rattle.race_top.specs.declared.ir_check.text.Text.{Text}
+use Rattle.race_top.specs.declared.ir_read.Callee.TheVariants as callees
 use Rattle.race_top.specs.declared.ir_read.Form.{Form}
 use Rattle.race_top.specs.declared.ir_read.Form.TheVariants.{Global, Declare, Define, DefineMain, Close, Load, Store, Add, Create, Join, Putchar, ReturnNull, ReturnValue}
 use Rattle.race_top.specs.declared.ir_read.Line.{Line}
@@ -16,7 +17,7 @@ use Rattle.race_top.specs.declared.ir_read.Local.{Local}
 use Rattle.race_top.specs.declared.ir_read.Local.TheVariants.{Number, Named}
 use Rattle.race_top.specs.declared.ir_read.Value.{Value}
 use Rattle.race_top.specs.declared.ir_read.Value.TheVariants.{Register, Literal}
-use Rattle.race_top.specs.IrNames.{body_lines, callee_name, declares_create, declares_join, declares_putchar, global_name, has_form, in_form, local_eq, main_name, narrow_set, thread_name, wide_set}
+use Rattle.race_top.specs.IrNames.{body_lines, callee_name, declares, global_name, has_form, in_form, local_eq, main_name, narrow_set, thread_name, wide_set}
 use Rattle.race_top.specs.IrNumber.{value_of}
 
 -- the names that a whole text has for its uses
@@ -24,9 +25,9 @@ abbrev pub text_of : List Line → Text
 text_of text = record {
   globals = filter_map (in_form global_name) text;
   threads = filter_map (in_form thread_name) text;
-  create = list_any (has_form declares_create) text;
-  join = list_any (has_form declares_join) text;
-  putchar = list_any (has_form declares_putchar) text;
+  create = list_any (has_form (declares callees.Create)) text;
+  join = list_any (has_form (declares callees.Join)) text;
+  putchar = list_any (has_form (declares callees.Putchar)) text;
 }
 
 -- before the first line

@@ -2,7 +2,7 @@
 
 ghost use Rattle.std.specs.Prelude.{◌≡◌, IfOk};
 ghost use Rattle.std.specs.List.{list_any};
-ghost use Rattle.race_top.specs.IrNames.{declares_create, declares_join, declares_putchar, has_form};
+ghost use Rattle.race_top.specs.IrNames.{declares, has_form};
 ghost use Rattle.race_top.specs.IrScope.{text_of};
 
 use crate::ir_check::name_table::NameTable;
@@ -32,60 +32,29 @@ impl<'s> Text<'s> {
         Ok(Text {
             globals,
             threads,
-            create: declares_create(lines),
-            join: declares_join(lines),
-            putchar: declares_putchar(lines),
+            create: declares(lines, Callee::Create),
+            join: declares(lines, Callee::Join),
+            putchar: declares(lines, Callee::Putchar),
         })
     }
 }
 
-fn declares_create(lines: &[Line<'_>]) -> bool
-    ensures { result ≡ list_any (has_form declares_create) lines.now }
+/// Whether a line declares the external call.
+fn declares(lines: &[Line<'_>], callee: Callee) -> bool
+    ensures { result ≡ list_any (has_form (declares callee)) lines.now }
 {
-    lines.iter().any(is_create)
+    lines.iter().any(|line| is_declaration(line, callee))
 }
 
-fn declares_join(lines: &[Line<'_>]) -> bool
-    ensures { result ≡ list_any (has_form declares_join) lines.now }
+fn is_declaration(line: &Line<'_>, callee: Callee) -> bool
+    ensures { result ≡ has_form (declares callee) line.now }
 {
-    lines.iter().any(is_join)
-}
-
-fn declares_putchar(lines: &[Line<'_>]) -> bool
-    ensures { result ≡ list_any (has_form declares_putchar) lines.now }
-{
-    lines.iter().any(is_putchar)
-}
-
-fn is_create(line: &Line<'_>) -> bool
-    ensures { result ≡ has_form declares_create line.now }
-{
-    matches!(
-        line,
-        Line::Form(Form::Declare {
-            callee: Callee::Create
-        })
-    )
-}
-
-fn is_join(line: &Line<'_>) -> bool
-    ensures { result ≡ has_form declares_join line.now }
-{
-    matches!(
-        line,
-        Line::Form(Form::Declare {
-            callee: Callee::Join
-        })
-    )
-}
-
-fn is_putchar(line: &Line<'_>) -> bool
-    ensures { result ≡ has_form declares_putchar line.now }
-{
-    matches!(
-        line,
-        Line::Form(Form::Declare {
-            callee: Callee::Putchar
-        })
-    )
+    let Line::Form(Form::Declare { callee: declared }) = line else {
+        return false;
+    };
+    match callee {
+        Callee::Create => matches!(declared, Callee::Create),
+        Callee::Join => matches!(declared, Callee::Join),
+        Callee::Putchar => matches!(declared, Callee::Putchar),
+    }
 }
