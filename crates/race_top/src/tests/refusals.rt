@@ -1,8 +1,7 @@
 //! The places of what is wrong in a module or a case: the worked example with one line changed.
 
-use super::texts::{CASE, MODULE, REPLAY, answer, shelf_with, with_line};
+use super::texts::{CASE, MODULE, assert_answer, first_lines, with_line};
 use crate::REFUSED;
-use rc_base::MemSink;
 use std::test::Fail;
 
 /// The number of a line of the module, the line in its place, and the refusal.
@@ -95,27 +94,15 @@ static CASES: [(usize, &str, &str); 21] = [
 ];
 
 #[test]
-fn a_changed_line_of_the_module_is_refused_at_its_place(rt: HostRuntime) -> Result<(), Fail> {
+fn a_changed_line_is_refused_at_its_place(rt: HostRuntime) -> Result<(), Fail> {
+    let alloc = rt.alloc();
     for (number, line, wanted) in &MODULES {
-        let module = with_line(rt.alloc(), MODULE, *number, line)?;
-        let mut shelf = shelf_with(rt.alloc(), &module, CASE)?;
-        let mut out = MemSink::new(rt.alloc(), 64, 64)?;
-        let status = answer(&rt, rt.alloc(), &REPLAY, &mut shelf, &mut out)?;
-        assert_eq!(rt; out.bytes(), wanted.as_bytes(), "{number}: {line}");
-        assert_eq!(rt; status, REFUSED);
+        let module = with_line(alloc, MODULE, *number, line)?;
+        assert_answer(&rt, alloc, &module, CASE, wanted, REFUSED)?;
     }
-    Ok(())
-}
-
-#[test]
-fn a_changed_line_of_the_case_is_refused_at_its_place(rt: HostRuntime) -> Result<(), Fail> {
     for (number, line, wanted) in &CASES {
-        let case = with_line(rt.alloc(), CASE, *number, line)?;
-        let mut shelf = shelf_with(rt.alloc(), MODULE, &case)?;
-        let mut out = MemSink::new(rt.alloc(), 64, 64)?;
-        let status = answer(&rt, rt.alloc(), &REPLAY, &mut shelf, &mut out)?;
-        assert_eq!(rt; out.bytes(), wanted.as_bytes(), "{number}: {line}");
-        assert_eq!(rt; status, REFUSED);
+        let case = with_line(alloc, CASE, *number, line)?;
+        assert_answer(&rt, alloc, MODULE, &case, wanted, REFUSED)?;
     }
     Ok(())
 }
@@ -123,17 +110,15 @@ fn a_changed_line_of_the_case_is_refused_at_its_place(rt: HostRuntime) -> Result
 /// A text that ends in a body is refused at its last line, and one that lacks main behind all else.
 #[test]
 fn a_text_that_is_cut_is_refused_at_its_end(rt: HostRuntime) -> Result<(), Fail> {
-    for (length, wanted) in [
+    let alloc = rt.alloc();
+    for (count, wanted) in [
         (0, "refused ModuleBadShape 0\n"),
-        (147, "refused ModuleBadShape 0\n"),
-        (216, "refused ModuleUnsupported 8\n"),
-        (256, "refused ModuleBadShape 0\n"),
+        (5, "refused ModuleBadShape 0\n"),
+        (8, "refused ModuleUnsupported 8\n"),
+        (11, "refused ModuleBadShape 0\n"),
     ] {
-        let mut shelf = shelf_with(rt.alloc(), &MODULE[..length], CASE)?;
-        let mut out = MemSink::new(rt.alloc(), 64, 64)?;
-        let status = answer(&rt, rt.alloc(), &REPLAY, &mut shelf, &mut out)?;
-        assert_eq!(rt; out.bytes(), wanted.as_bytes(), "{length} bytes");
-        assert_eq!(rt; status, REFUSED);
+        let module = first_lines(alloc, MODULE, count)?;
+        assert_answer(&rt, alloc, &module, CASE, wanted, REFUSED)?;
     }
     Ok(())
 }

@@ -1,15 +1,19 @@
 //! What is written of a run, and listed turns that can't be taken: the worked example with one line changed.
 
-use super::texts::{CASE, MODULE, REPLAY, answer, shelf_with, with_line};
-use rc_base::MemSink;
+use super::texts::{CASE, MODULE, assert_answer, with_line};
+use crate::{REFUSED, WHOLE};
 use std::test::Fail;
 
-/// The number of a line of the case, the line in its place, and what is written.
-static CASES: [(usize, &str, &str); 8] = [
+/// The number of a line of the case, the line in its place, and the refusal.
+static REFUSALS: [(usize, &str, &str); 4] = [
     (7, "turn 0*3", "refused ReplayTurnNotEnabled 3\n"),
     (7, "turn 0 1", "refused ReplayTurnNotEnabled 2\n"),
     (7, "turn 0*2 1*2 0*4", "refused ReplayEndsEarly 8\n"),
     (3, "steps 2", "refused ReplaySpent 2\n"),
+];
+
+/// The same for listed turns that can be taken.
+static CASES: [(usize, &str, &str); 4] = [
     (
         3,
         "steps 5",
@@ -62,25 +66,19 @@ static MODULES: [(usize, &str, &str); 5] = [
 ];
 
 #[test]
-fn a_changed_case_replays_as_it_says(rt: HostRuntime) -> Result<(), Fail> {
-    for (number, line, wanted) in &CASES {
-        let case = with_line(rt.alloc(), CASE, *number, line)?;
-        let mut shelf = shelf_with(rt.alloc(), MODULE, &case)?;
-        let mut out = MemSink::new(rt.alloc(), 64, 128)?;
-        answer(&rt, rt.alloc(), &REPLAY, &mut shelf, &mut out)?;
-        assert_eq!(rt; out.bytes(), wanted.as_bytes(), "{line}");
+fn changed_texts_replay_as_they_say(rt: HostRuntime) -> Result<(), Fail> {
+    let alloc = rt.alloc();
+    for (number, line, wanted) in &REFUSALS {
+        let case = with_line(alloc, CASE, *number, line)?;
+        assert_answer(&rt, alloc, MODULE, &case, wanted, REFUSED)?;
     }
-    Ok(())
-}
-
-#[test]
-fn a_changed_module_replays_as_it_says(rt: HostRuntime) -> Result<(), Fail> {
+    for (number, line, wanted) in &CASES {
+        let case = with_line(alloc, CASE, *number, line)?;
+        assert_answer(&rt, alloc, MODULE, &case, wanted, WHOLE)?;
+    }
     for (number, line, wanted) in &MODULES {
-        let module = with_line(rt.alloc(), MODULE, *number, line)?;
-        let mut shelf = shelf_with(rt.alloc(), &module, CASE)?;
-        let mut out = MemSink::new(rt.alloc(), 64, 128)?;
-        answer(&rt, rt.alloc(), &REPLAY, &mut shelf, &mut out)?;
-        assert_eq!(rt; out.bytes(), wanted.as_bytes(), "{line}");
+        let module = with_line(alloc, MODULE, *number, line)?;
+        assert_answer(&rt, alloc, &module, CASE, wanted, WHOLE)?;
     }
     Ok(())
 }

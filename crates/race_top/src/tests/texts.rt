@@ -3,6 +3,7 @@
 use crate::run;
 use rc_base::{MemShelf, MemSink, NoMemory, OpenGate, Shelf, Sink, Words};
 use std::alloc::Global;
+use std::process::Abort;
 use std::thread::Threads;
 
 /// Main makes a thread, joins it and prints the global to which that thread added 1.
@@ -90,4 +91,31 @@ pub fn with_line(
         }
     }
     Ok(changed)
+}
+
+/// The first lines of a text.
+pub fn first_lines(alloc: Global, text: &[u8], count: usize) -> Result<Vec<u8>, NoMemory> {
+    let mut front = Vec::new(alloc);
+    for line in text.split(|byte| *byte == b'\n').take(count) {
+        front.extend_from_slice(line)?;
+        front.push(b'\n')?;
+    }
+    Ok(front)
+}
+
+/// Asserts what the program writes for a module and a case, and its status.
+pub fn assert_answer<R: Abort + Threads + Sync>(
+    rt: &R,
+    alloc: Global,
+    module: &[u8],
+    case: &[u8],
+    wanted: &str,
+    wanted_status: u8,
+) -> Result<(), NoMemory> {
+    let mut shelf = shelf_with(alloc, module, case)?;
+    let mut out = MemSink::new(alloc, 64, 128)?;
+    let status = answer(rt, alloc, &REPLAY, &mut shelf, &mut out)?;
+    assert_eq!(rt; out.bytes(), wanted.as_bytes());
+    assert_eq!(rt; status, wanted_status, "{wanted}");
+    Ok(())
 }
