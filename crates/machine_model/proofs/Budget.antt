@@ -4,7 +4,7 @@ use Rattle.machine_model.specs.declared.run.Run.{Run}
 use Rattle.machine_model.specs.declared.run.TurnEnd.{TurnEnd}
 use Rattle.machine_model.specs.declared.run.TurnEnd.TheVariants as ends
 use Rattle.machine_model.specs.declared.state.State.{State}
-use Rattle.machine_model.specs.Follow.{Choice}
+use Rattle.machine_model.specs.Policy.{Choice}
 use Rattle.machine_model.specs.Run.{Advance, Course, advanced, advanced_by, advanced_with, after_turn, begun, onward_or_told, run_from, run_of}
 use Rattle.machine_model.specs.Run.Advance.{Onward, Over}
 use Rattle.machine_model.specs.Setting.{Setting}

@@ -1,4 +1,4 @@
--- What the chooser that follows a list picks.
+-- What is taken where a list of turns is followed.
 use Rattle.std.proofs.Common.{◌≡◌, ℕ, zero, suc, ◌+◌, ◌<◌, Bool, true, false, cond, eqb, ltb, List, ◌∷◌, [], length, get_or, drop, Option, Some, None, refl, sym, ap, subst, ◌∙◌, add-one, add-zero, arith}
 use Rattle.std.specs.Prelude.{Contains, ◌||◌, find, position, slice_get, unwrap_or, MatchOption}
 use Rattle.std.specs.List.{position_or_len}
@@ -7,10 +7,10 @@ use Rattle.std.proofs.lemmas.Bool.{eq-eqb, eqb-true, lt-ltb, ltb-true, false≢t
 use Rattle.std.proofs.lemmas.List.{get_or-drop, length-drop}
 use Rattle.std.proofs.lemmas.List.Sums.{passes_at_first}
 use Rattle.std.proofs.lemmas.Option.{get_or_from_slice_get, slice_get_within}
-use Rattle.machine_model.specs.Follow.{Choice, Follow, choose, chosen, is_above, is_among}
+use Rattle.machine_model.specs.Follow.{Follow, Followed, follow_turns, is_above, is_among, taken}
 
 -- an element of the rest is one of the whole
-Contains-later : (first : ℕ) (others : List ℕ) (thread : ℕ) → Contains others thread → Contains (first ∷ others) thread
+pub Contains-later : (first : ℕ) (others : List ℕ) (thread : ℕ) → Contains others thread → Contains (first ∷ others) thread
 Contains-later first others thread found = (found.0 + 1, omega (arith, found.1), rw add-one found.2)
 
 among-cases : (first : ℕ) (others : List ℕ) (thread : ℕ) (same : Bool) → eqb first thread ≡ same →
@@ -20,7 +20,7 @@ among-cases first others thread true same found rest = (0, omega arith, eqb-true
 among-cases first others thread false same found rest = Contains-later first others thread (rest found)
 
 -- a thread that is found among others is one of them
-Contains-from_among : (threads : List ℕ) (thread : ℕ) → is_among threads thread ≡ true → Contains threads thread
+pub Contains-from_among : (threads : List ℕ) (thread : ℕ) → is_among threads thread ≡ true → Contains threads thread
 Contains-from_among [] thread found = absurd (false≢true found)
 Contains-from_among (first ∷ others) thread found =
     among-cases first others thread (eqb first thread) refl found (Contains-from_among others thread)
@@ -53,33 +53,33 @@ position-passes test threads place found =
         rw at at (passes_at_first test threads 0 (ltb-true _ _ e))
     go false e found = absurd (let h : ⊥ = cc in h)
 
-chosen-enabled : (listed : List ℕ) (follow : Follow) (first : ℕ) (others : List ℕ) (found : Option ℕ) →
+taken-enabled : (listed : List ℕ) (follow : Follow) (first : ℕ) (others : List ℕ) (found : Option ℕ) →
     position (is_among (first ∷ others)) (drop follow.position listed) ≡ found →
-    Contains (first ∷ others) (chosen listed follow first others found).thread
-chosen-enabled listed follow first others None e =
+    Contains (first ∷ others) (taken listed follow first others found).thread
+taken-enabled listed follow first others None e =
     Contains-unwrap first others (find (is_above follow.last) (first ∷ others)) (Contains-find (is_above follow.last) (first ∷ others))
-chosen-enabled listed follow first others (Some entry) e =
+taken-enabled listed follow first others (Some entry) e =
     Contains-from_among (first ∷ others) (get_or listed (follow.position + entry) 0)
     (let Found : ℕ → Type 0 = λ thread. is_among (first ∷ others) thread ≡ true in
     subst Found (get_or-drop follow.position listed entry 0)
     (position-passes (is_among (first ∷ others)) (drop follow.position listed) entry e))
 
-pub choose-enabled : (listed : List ℕ) (follow : Follow) (enabled : List ℕ) (choice : Choice) →
-    choose listed follow enabled ≡ Some choice → Contains enabled choice.thread
-unfolding choose
-choose-enabled listed follow [] choice e = absurd (let h : ⊥ = cc in h)
-choose-enabled listed follow (first ∷ others) choice e =
+pub follow_turns-enabled : (listed : List ℕ) (follow : Follow) (enabled : List ℕ) (followed : Followed) →
+    follow_turns listed follow enabled ≡ Some followed → Contains enabled followed.thread
+unfolding follow_turns
+follow_turns-enabled listed follow [] followed e = absurd (let h : ⊥ = cc in h)
+follow_turns-enabled listed follow (first ∷ others) followed e =
     let found = position (is_among (first ∷ others)) (drop follow.position listed) in
-    let same : chosen listed follow first others found ≡ choice = cc in
-    rw (← same) (chosen-enabled listed follow first others found refl)
+    let same : taken listed follow first others found ≡ followed = cc in
+    rw (← same) (taken-enabled listed follow first others found refl)
 
-pub choose-some : (listed : List ℕ) (follow : Follow) (enabled : List ℕ) →
-    choose listed follow enabled ≡ None → enabled ≡ []
-unfolding choose
-choose-some listed follow [] e = refl
-choose-some listed follow (first ∷ others) e = absurd (let h : ⊥ = cc in h)
+pub follow_turns-some : (listed : List ℕ) (follow : Follow) (enabled : List ℕ) →
+    follow_turns listed follow enabled ≡ None → enabled ≡ []
+unfolding follow_turns
+follow_turns-some listed follow [] e = refl
+follow_turns-some listed follow (first ∷ others) e = absurd (let h : ⊥ = cc in h)
 
-among-from_place : (threads : List ℕ) (thread place : ℕ) → place < length threads → get_or threads place thread ≡ thread →
+pub among-from_place : (threads : List ℕ) (thread place : ℕ) → place < length threads → get_or threads place thread ≡ thread →
     is_among threads thread ≡ true
 among-from_place [] thread place within is = absurd (omega arith)
 among-from_place (first ∷ others) thread zero within is =
@@ -94,13 +94,13 @@ position-first test [] within passes = absurd (omega arith)
 position-first test (first ∷ others) within passes =
     rw passes (rw (lt-ltb 0 (suc (length others)) (omega arith)) refl)
 
-pub choose-listed : (listed : List ℕ) (follow : Follow) (enabled : List ℕ) (choice : Choice) (entry : ℕ) →
+pub follow_turns-listed : (listed : List ℕ) (follow : Follow) (enabled : List ℕ) (followed : Followed) (entry : ℕ) →
     slice_get listed follow.position ≡ Some entry → Contains enabled entry →
-    choose listed follow enabled ≡ Some choice →
-    (choice.thread ≡ entry) × (choice.next.position ≡ follow.position + 1)
-unfolding choose
-choose-listed listed follow [] choice entry next among e = absurd (let h : ⊥ = cc in h)
-choose-listed listed follow (first ∷ others) choice entry next among e =
+    follow_turns listed follow enabled ≡ Some followed →
+    (followed.thread ≡ entry) × (followed.next.position ≡ follow.position + 1)
+unfolding follow_turns
+follow_turns-listed listed follow [] followed entry next among e = absurd (let h : ⊥ = cc in h)
+follow_turns-listed listed follow (first ∷ others) followed entry next among e =
     let within : follow.position < length listed = slice_get_within listed follow.position entry next in
     let rest = drop follow.position listed in
     let long : 0 < length rest = omega (arith, length-drop follow.position listed) in
@@ -110,6 +110,21 @@ choose-listed listed follow (first ∷ others) choice entry next among e =
     let Found : ℕ → Type 0 = λ thread. is_among (first ∷ others) thread ≡ true in
     subst Found (sym is) (among-from_place (first ∷ others) entry among.0 among.1 among.2) in
     let found = position-first (is_among (first ∷ others)) rest long passes in
-    let same : chosen listed follow first others (Some 0) ≡ choice =
-    sym (ap (chosen listed follow first others) found) ∙ (let h : chosen listed follow first others (position (is_among (first ∷ others)) rest) ≡ choice = cc in h) in
+    let same : taken listed follow first others (Some 0) ≡ followed =
+    sym (ap (taken listed follow first others) found) ∙ (let h : taken listed follow first others (position (is_among (first ∷ others)) rest) ≡ followed = cc in h) in
     rw (← same) (rw add-zero (get_or_from_slice_get listed follow.position entry 0 next), omega arith)
+
+-- what is taken is the thread chosen last
+taken-last : (listed : List ℕ) (follow : Follow) (first : ℕ) (others : List ℕ) (found : Option ℕ) →
+    let followed = taken listed follow first others found in followed.next.last ≡ Some followed.thread
+taken-last listed follow first others None = refl
+taken-last listed follow first others (Some entry) = refl
+
+pub follow_turns-last : (listed : List ℕ) (follow : Follow) (enabled : List ℕ) (followed : Followed) →
+    follow_turns listed follow enabled ≡ Some followed → followed.next.last ≡ Some followed.thread
+unfolding follow_turns
+follow_turns-last listed follow [] followed e = absurd (let h : ⊥ = cc in h)
+follow_turns-last listed follow (first ∷ others) followed e =
+    let found = position (is_among (first ∷ others)) (drop follow.position listed) in
+    let same : taken listed follow first others found ≡ followed = cc in
+    rw (← same) (taken-last listed follow first others found)

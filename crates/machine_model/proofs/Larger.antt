@@ -20,7 +20,7 @@ use Rattle.machine_model.specs.Instruction.{effect_of}
 use Rattle.machine_model.specs.Operation.{is_visible, footprint_of}
 use Rattle.machine_model.specs.Run.{Advance, Course, advanced, advanced_with, advanced_by, after_turn, begun, onward_or_told, run_from, run_of}
 use Rattle.machine_model.specs.Run.Advance.{Onward, Over}
-use Rattle.machine_model.specs.Follow.{Choice, choose}
+use Rattle.machine_model.specs.Policy.{Choice, choose}
 use Rattle.machine_model.specs.Enabled.{enabled}
 use Rattle.machine_model.specs.Setting.{Setting}
 use Rattle.machine_model.specs.Thread.{top, has_ended}
@@ -255,7 +255,7 @@ advanced-lasts : (setting : Setting) (listed : List ℕ) (more : ℕ) (course : 
     advanced setting listed (richer_course more course) ≡ richer_advance more (advanced setting listed course)
 unfolding advanced
 advanced-lasts setting listed more course =
-    advanced_with-lasts setting more course (choose listed course.follow (enabled setting course.state))
+    advanced_with-lasts setting more course (choose listed course.policy (enabled setting course.state))
 
 -- a run that is not spent has no turn that was cut
 onward-whole : (go : Course → Run) (advance : Advance) →

@@ -4,5 +4,12 @@ pub mod Bytes
 pub mod Cases
 pub mod Choices
 pub mod Larger
+pub mod Moments
 pub mod Payment
+pub mod Policies
+pub mod PolicyEquality
+pub mod Powers
+pub mod RoundRobin
+pub mod StateEquality
 pub mod Stored
+pub mod Unrepeated

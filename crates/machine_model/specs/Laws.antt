@@ -1,9 +1,8 @@
 -- What holds of every turn and run, whatever the module, the input, the watched sites and the listed turns.
-use Rattle.std.specs.Prelude.{◌≡◌, ◌≢◌, ℕ, ◌+◌, ◌%◌, ◌^◌, ◌<◌, ◌≤◌, List, [], length, Contains, Some, None, Ok, slice_get}
+use Rattle.std.specs.Prelude.{◌≡◌, ◌≢◌, ℕ, ◌+◌, ◌%◌, ◌^◌, ◌<◌, ◌≤◌, List, length, Ok}
 use Rattle.machine_model.specs.declared.run.Outcome.TheVariants.{Spent}
 use Rattle.machine_model.specs.declared.state.Object.{Object}
 use Rattle.machine_model.specs.Effect.{Footprint}
-use Rattle.machine_model.specs.Follow.{Choice, Follow, choose}
 use Rattle.machine_model.specs.Memory.{read, written}
 use Rattle.machine_model.specs.Run.{begun, run_from, run_of}
 use Rattle.machine_model.specs.Setting.{Setting}
@@ -33,24 +32,6 @@ LargerBudgetKeepsRun =
     (setting : Setting) (listed : List ℕ) (steps more : ℕ) →
     steps ≤ more → (run_of setting listed steps).outcome ≢ Spent →
     run_of setting listed more ≡ run_of setting listed steps
-
--- what is chosen is enabled, and something is chosen unless nothing is enabled
-abbrev pub ChoiceIsEnabled : Type 0
-ChoiceIsEnabled =
-    (listed : List ℕ) (follow : Follow) (enabled : List ℕ) (choice : Choice) →
-    choose listed follow enabled ≡ Some choice → Contains enabled choice.thread
-
-abbrev pub ChoosesUnlessNone : Type 0
-ChoosesUnlessNone =
-    (listed : List ℕ) (follow : Follow) (enabled : List ℕ) → choose listed follow enabled ≡ None → enabled ≡ []
-
--- the next entry of the list is chosen where it is enabled
-abbrev pub ListedIsChosen : Type 0
-ListedIsChosen =
-    (listed : List ℕ) (follow : Follow) (enabled : List ℕ) (choice : Choice) (entry : ℕ) →
-    slice_get listed follow.position ≡ Some entry → Contains enabled entry →
-    choose listed follow enabled ≡ Some choice →
-    (choice.thread ≡ entry) × (choice.next.position ≡ follow.position + 1)
 
 -- a load gives the lowest bytes of what was stored in its range
 abbrev pub StoredIsLoaded : Type 0

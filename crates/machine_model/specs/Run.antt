@@ -13,7 +13,7 @@ use Rattle.machine_model.specs.declared.state.ObjectKind.{ObjectKind}
 use Rattle.machine_model.specs.declared.state.ObjectKind.TheVariants.{Global, Constant}
 use Rattle.machine_model.specs.declared.state.State.{State}
 use Rattle.machine_model.specs.Enabled.{enabled}
-use Rattle.machine_model.specs.Follow.{Follow, Choice, at_front, choose}
+use Rattle.machine_model.specs.Policy.{Policy, Choice, from_front, choose}
 use Rattle.machine_model.specs.Setting.{Setting}
 use Rattle.machine_model.specs.Thread.{made}
 use Rattle.machine_model.specs.Turn.{Turned, turn}
@@ -48,7 +48,7 @@ pub record Course : Type 0 where
   pub left : ℕ
   pub decided : List ℕ
   pub turns : List ℕ
-  pub follow : Follow
+  pub policy : Policy
 
 -- a run goes on, or is over
 pub data Advance : Type 0 where
@@ -66,7 +66,7 @@ after_turn course choice turned = record {
   left = turned.left;
   decided = course.decided ++ turned.decided;
   turns = course.turns ++ choice.thread ∷ [];
-  follow = choice.next;
+  policy = choice.next;
 }
 
 abbrev pub advanced_by : ℕ → Course → TurnEnd → Advance
@@ -84,7 +84,7 @@ advanced_with setting course (Some choice) =
 -- one turn of a run; where no thread is enabled there is none
 unfoldable pub advanced : Setting → List ℕ → Course → Advance
 advanced setting listed course =
-    advanced_with setting course (choose listed course.follow (enabled setting course.state))
+    advanced_with setting course (choose listed course.policy (enabled setting course.state))
 
 abbrev pub onward_or_told : (Course → Run) → Advance → Run
 onward_or_told go (Onward course) = go course
@@ -98,7 +98,7 @@ run_from (suc most) setting listed course =
 
 abbrev pub begun : Setting → ℕ → Course
 begun setting steps =
-    record { state = started setting.code; left = steps; decided = []; turns = []; follow = at_front }
+    record { state = started setting.code; left = steps; decided = []; turns = []; policy = from_front }
 
 -- the run that follows a list of turns within a budget of steps; each turn costs at least 1, or is cut
 unfoldable pub run_of : Setting → List ℕ → ℕ → Run

@@ -1,11 +1,18 @@
 //! Laws of the definitions: what holds of every turn and run. No function here does anything; each one's
 //! contract is a theorem.
 
-ghost use Rattle.std.specs.Prelude.{◌≡◌, length, map};
+ghost use Rattle.std.specs.Prelude.{◌≡◌, ℕ, [], ◌∷◌, Some, length, map};
 ghost use Rattle.std.specs.List.{range_with_len};
 ghost use Rattle.ir_types.specs.declared.input.Input.{Input};
 ghost use Rattle.machine_model.specs.Example.{cut_at_end, cut_in_thread, run_within, turn_counts, whole};
-ghost use Rattle.machine_model.specs.Laws.{ChoiceIsEnabled, ChoosesUnlessNone, LargerBudgetKeepsRun, ListedIsChosen, RunIsWithinBudget, RunNeedsNoMore, StoredIsLoaded, TurnNeedsNoMore};
+ghost use Rattle.machine_model.specs.Job.Alternate.{Not};
+ghost use Rattle.machine_model.specs.JobLaws.{MomentsAreTurns, UnrepeatedIsRun};
+ghost use Rattle.machine_model.specs.Laws.{LargerBudgetKeepsRun, RunIsWithinBudget, RunNeedsNoMore, StoredIsLoaded, TurnNeedsNoMore};
+ghost use Rattle.machine_model.specs.PolicyLaws.{ChoiceIsEnabled, ChoiceIsLast, ChoosesUnlessNone, ListedIsChosen, ReleaseKeepsPlace, TakesTurns};
+ghost use Rattle.machine_model.specs.RaceExample.{both_turns, first_turns, leaving_alternate, ordered_alternate, other_order, printed_byte, prints, recorded_order, turned_by_numbers, turned_round, up_to_join};
+ghost use Rattle.machine_model.specs.RepeatLaws.{EarlierTurnIsPower, SamePolicyIsEqual, SameStateIsEqual};
+ghost use Rattle.machine_model.specs.declared.run.Outcome.TheVariants.{Exit, Spent};
+ghost use Rattle.machine_model.specs.declared.run.Reason.TheVariants.{Ended, Stuck};
 
 /// The bounds by which turns and runs are defined are no part of their meaning.
 pub fn bounds_have_no_meaning()
@@ -23,11 +30,29 @@ pub fn larger_budget_keeps_run()
     ensures { LargerBudgetKeepsRun }
 {}
 
-/// The chooser picks an enabled thread wherever there is one, and the listed one where that is enabled.
+/// The chooser picks an enabled thread that it may choose wherever there is one: the listed one where that is
+/// such a thread, else the next by number.
 pub fn chooser_follows_the_list()
     ensures enabled { ChoiceIsEnabled }
     ensures some { ChoosesUnlessNone }
+    ensures last { ChoiceIsLast }
     ensures listed { ListedIsChosen }
+    ensures released { ReleaseKeepsPlace }
+    ensures turns { TakesTurns }
+{}
+
+/// The repeat test compares all of the state but its output and all of the chooser, with the greatest power of
+/// two below the turn.
+pub fn repeat_test_is_equality()
+    ensures state { SameStateIsEqual }
+    ensures policy { SamePolicyIsEqual }
+    ensures earlier { EarlierTurnIsPower }
+{}
+
+/// The moments of a run are its turns, and the repeat test changes nothing of a run in which no turn repeats.
+pub fn moments_are_turns()
+    ensures moments { MomentsAreTurns }
+    ensures unrepeated { UnrepeatedIsRun }
 {}
 
 /// Memory gives back what was stored.
@@ -42,4 +67,17 @@ pub fn worked_example()
     ensures cut_in_thread { (input : Input) → run_within input 5 ≡ cut_in_thread }
     ensures cut_at_end { (input : Input) → run_within input 12 ≡ cut_at_end }
     ensures costs { (input : Input) → map (λ steps. length (run_within input steps).turns) (range_with_len 0 14) ≡ turn_counts }
+{}
+
+/// Worked races. Of the first the other order prints another byte; within small budgets one order or the other is
+/// cut. Of the second and the third the other order can't be enforced, since the second thread waits for the
+/// first, or since main returns meanwhile.
+pub fn worked_races()
+    ensures recorded { (input : Input) → recorded_order input both_turns 1000 ≡ record { turns = both_turns; output = prints 66; outcome = Exit 0 } }
+    ensures other { (input : Input) → other_order input both_turns 1000 ≡ Some (record { turns = turned_round; output = prints 65; outcome = Exit 0 }) }
+    ensures cut_early { (input : Input) → recorded_order input first_turns 13 ≡ record { turns = up_to_join; output = []; outcome = Spent } }
+    ensures cut_late { (input : Input) → recorded_order input first_turns 16 ≡ record { turns = both_turns; output = printed_byte 66; outcome = Spent } }
+    ensures whole { (input : Input) → other_order input first_turns 17 ≡ Some (record { turns = turned_by_numbers; output = prints 65; outcome = Exit 0 }) }
+    ensures stuck { (input : Input) → ordered_alternate input ≡ Not Stuck (0 ∷ 0 ∷ 0 ∷ 1 ∷ 2 ∷ []) }
+    ensures ended { (input : Input) → leaving_alternate input ≡ Not Ended (0 ∷ 0 ∷ 0 ∷ 1 ∷ 2 ∷ 0 ∷ []) }
 {}

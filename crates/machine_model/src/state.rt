@@ -3,7 +3,7 @@
 use ir_types::{Bytes, ItemKind, List, Site};
 
 /// All that a run changes. Thread `t` is member `t` of `threads`; the others are in order of creation.
-#[derive(Debug, Drop)]
+#[derive(Debug, Drop, PartialEq, Eq)]
 pub struct State {
     pub threads: List<Thread>,
     pub objects: List<Object>,
@@ -15,7 +15,7 @@ pub struct State {
 }
 
 /// A thread. Its last frame is the one that runs; a thread that has ended has none.
-#[derive(Debug, Drop)]
+#[derive(Debug, Drop, PartialEq, Eq)]
 pub struct Thread {
     pub frames: List<Frame>,
     /// The operation that its next turn runs; while its turn goes on, the one that the turn began with.
@@ -27,7 +27,7 @@ pub struct Thread {
 
 /// A call that goes on: the next instruction is number `place` of `block`, phis counted. A caller's place
 /// stays at its call.
-#[derive(Debug, Drop)]
+#[derive(Debug, Drop, PartialEq, Eq)]
 pub struct Frame {
     pub function: u32,
     pub block: u32,
@@ -40,7 +40,7 @@ pub struct Frame {
 
 /// What a thread waits to do: a visible operation, with the addresses and thread numbers that were decided
 /// when it became pending.
-#[derive(Debug, Drop)]
+#[derive(Debug, Drop, PartialEq, Eq)]
 pub enum Operation {
     /// The start of the thread.
     Start,
@@ -62,7 +62,7 @@ pub enum ObjectKind {
 }
 
 /// A range of bytes of memory. `maker` is the thread that made it, 0 for a global.
-#[derive(Debug, Drop)]
+#[derive(Debug, Drop, PartialEq, Eq)]
 pub struct Object {
     pub base: u64,
     pub size: u64,
@@ -80,7 +80,7 @@ pub struct Lock {
 }
 
 /// A condition, by its address, with the threads that wait for it in order of arrival.
-#[derive(Debug, Drop)]
+#[derive(Debug, Drop, PartialEq, Eq)]
 pub struct Condition {
     pub at: u64,
     pub waiters: List<u32>,

@@ -6,20 +6,16 @@ pub mod CaseNumber
 pub mod CaseParts
 pub mod CaseSpelled
 pub mod CaseTurns
-pub mod Choices
 pub mod Courses
 pub mod IrBuilds
 pub mod IrLines
 pub mod IrLists
 pub mod IrNumbers
-pub mod IrSmall
+pub mod IrRunnable
 pub mod IrTables
 pub mod Layouts
 pub mod Literals
-pub mod MachineAdvance
-pub mod MachineMemory
 pub mod NotEnabled
-pub mod OperationLemmas
 pub mod Readings
 pub mod Refusals
 pub mod Replays
@@ -30,4 +26,3 @@ pub mod ReportWords
 pub mod Sigils
 pub mod Spellings
 pub mod Tokens
-pub mod TurnLemmas

@@ -9,7 +9,7 @@ use Rattle.machine_model.specs.declared.run.Run.{Run}
 use Rattle.machine_model.specs.declared.run.TurnEnd.{TurnEnd}
 use Rattle.machine_model.specs.declared.run.TurnEnd.TheVariants as ends
 use Rattle.machine_model.specs.Enabled.{enabled}
-use Rattle.machine_model.specs.Follow.{Choice, choose}
+use Rattle.machine_model.specs.Policy.{Choice, choose}
 use Rattle.machine_model.specs.Run.{Course, advanced, advanced_by, advanced_with, after_turn, begun, onward_or_told, run_from, run_of}
 use Rattle.machine_model.specs.Setting.{Setting}
 use Rattle.machine_model.specs.Turn.{turn}
@@ -17,7 +17,7 @@ use Rattle.race_top.specs.ReplayLaws.{course_after, onward_from}
 use Rattle.race_top.specs.TraceReplay.{ReplayFault, fault_at_end, fault_from, first_other, replay_fault}
 use Rattle.race_top.specs.TraceReplay.ReplayFault.{TurnNotEnabled}
 use Rattle.race_top.proofs.Refusals.{differs}
-use Rattle.race_top.proofs.Replays.{Chooser, Continues, chosen-begins, next-in, run_from-begins, slice_get-after}
+use Rattle.race_top.proofs.Replays.{Chooser, Continues, Follows, IsAt, chosen-begins, follows-next, may-choose, mode-stays, next-in, run_from-begins, slice_get-after}
 
 -- two lists have a front in common, and then differ
 pub record Parts (listed turns : List ℕ) (before : ℕ) : Type 0 where
@@ -76,8 +76,8 @@ no_longer front thread rest same = omega (arith, ap length same, length-append f
 -- the turn that is taken is the listed one where that is enabled
 here : Chooser → (go : Course → Run) (setting : Setting) (listed : List ℕ) (course : Course) (one : Option Choice)
     (thread taken : ℕ) (listed_rest taken_rest : List ℕ) →
-    choose listed course.follow (enabled setting course.state) ≡ one →
-    course.follow.position ≡ length course.turns → Continues go →
+    choose listed course.policy (enabled setting course.state) ≡ one →
+    IsAt course.policy (length course.turns) → Continues go →
     listed ≡ course.turns ++ thread ∷ listed_rest →
     (onward_or_told go (advanced_with setting course one)).turns ≡ course.turns ++ taken ∷ taken_rest →
     Contains (enabled setting course.state) thread → thread ≡ taken
@@ -88,9 +88,10 @@ here laws go setting listed course (Some choice) thread taken listed_rest taken_
     let first = next-in course.turns choice.thread _ begins.0 begins.1 in
     let second : slice_get (onward_or_told go (advanced_with setting course (Some choice))).turns (length course.turns) ≡ Some taken =
     rw taken_is (slice_get-after course.turns taken taken_rest) in
-    let next : slice_get listed course.follow.position ≡ Some thread =
-    rw (at, listed_is) (slice_get-after course.turns thread listed_rest) in
-    let picks = laws.is_listed listed course.follow (enabled setting course.state) choice thread next among picked in
+    let next : slice_get listed course.policy.follow.position ≡ Some thread =
+    rw (at.1, listed_is) (slice_get-after course.turns thread listed_rest) in
+    let picks = laws.is_listed listed course.policy (enabled setting course.state) choice thread (mode-stays course.policy at.0)
+    (may-choose course.policy thread at.0) next among picked in
     let same : choice.thread ≡ taken = cc in
     sym picks.0 ∙ same
 
@@ -117,11 +118,11 @@ by_end go after setting course next ends.Spent thread taken one first common tak
 -- what holds after a listed turn that was taken holds before it
 further : Chooser → (go : Course → Run) (after : Course → Course) (setting : Setting) (listed : List ℕ) (course : Course)
     (one : Option Choice) (thread taken first : ℕ) (common listed_rest taken_rest : List ℕ) →
-    choose listed course.follow (enabled setting course.state) ≡ one →
-    course.follow.position ≡ length course.turns → Continues go →
+    choose listed course.policy (enabled setting course.state) ≡ one →
+    IsAt course.policy (length course.turns) → Continues go →
     listed ≡ course.turns ++ first ∷ (common ++ thread ∷ listed_rest) →
     (onward_or_told go (advanced_with setting course one)).turns ≡ course.turns ++ first ∷ (common ++ taken ∷ taken_rest) →
-    ((next : Course) → next.follow.position ≡ length next.turns →
+    ((next : Course) → IsAt next.policy (length next.turns) →
     listed ≡ next.turns ++ (common ++ thread ∷ listed_rest) → (go next).turns ≡ next.turns ++ (common ++ taken ∷ taken_rest) →
     Contains (enabled setting (after next).state) thread → thread ≡ taken) →
     Contains (enabled setting (onward_from after course (advanced_with setting course one)).state) thread → thread ≡ taken
@@ -133,20 +134,22 @@ further laws go after setting listed course (Some choice) thread taken first com
     let first_one : slice_get (onward_or_told go (advanced_with setting course (Some choice))).turns (length course.turns) ≡ Some first =
     rw taken_is (slice_get-after course.turns first (common ++ taken ∷ taken_rest)) in
     let same : first ≡ choice.thread = cc in
-    let next_listed : slice_get listed course.follow.position ≡ Some choice.thread =
-    rw (at, listed_is, same) (slice_get-after course.turns choice.thread (common ++ thread ∷ listed_rest)) in
-    let among = laws.is_enabled listed course.follow (enabled setting course.state) choice picked in
-    let picks = laws.is_listed listed course.follow (enabled setting course.state) choice choice.thread next_listed among picked in
+    let next_listed : slice_get listed course.policy.follow.position ≡ Some choice.thread =
+    rw (at.1, listed_is, same) (slice_get-after course.turns choice.thread (common ++ thread ∷ listed_rest)) in
+    let among = (laws.is_enabled listed course.policy (enabled setting course.state) choice picked).0 in
+    let picks = laws.is_listed listed course.policy (enabled setting course.state) choice choice.thread (mode-stays course.policy at.0)
+    (may-choose course.policy choice.thread at.0) next_listed among picked in
     let turned = turn setting course.state choice.thread course.left in
     let moved = λ (rest : List ℕ). ap (λ thread. course.turns ++ thread ∷ rest) same ∙ sym (append_assoc course.turns (choice.thread ∷ []) rest) in
     by_end go after setting course (after_turn course choice turned) turned.end thread taken choice.thread first common taken_rest
     refl taken_is
     (λ is. on (after_turn course choice turned)
-    (omega (arith, picks.1, at, length-append course.turns (choice.thread ∷ [])))
+    (follows-next laws listed course.policy (enabled setting course.state) choice picked at.0,
+    omega (arith, picks.1, at.1, length-append course.turns (choice.thread ∷ [])))
     (listed_is ∙ moved (common ++ thread ∷ listed_rest)) (is ∙ moved (common ++ taken ∷ taken_rest)))
 
 walk : Chooser → (common : List ℕ) (most : ℕ) (setting : Setting) (listed : List ℕ) (thread taken : ℕ)
-    (listed_rest taken_rest : List ℕ) (course : Course) → course.follow.position ≡ length course.turns →
+    (listed_rest taken_rest : List ℕ) (course : Course) → IsAt course.policy (length course.turns) →
     listed ≡ course.turns ++ (common ++ thread ∷ listed_rest) →
     (run_from most setting listed course).turns ≡ course.turns ++ (common ++ taken ∷ taken_rest) →
     Contains (enabled setting (course_after (length common) setting listed course).state) thread → thread ≡ taken
@@ -157,11 +160,11 @@ walk laws (first ∷ common) zero setting listed thread taken listed_rest taken_
     absurd (no_longer course.turns first (common ++ taken ∷ taken_rest) taken_is)
 walk laws [] (suc most) setting listed thread taken listed_rest taken_rest course at listed_is taken_is among =
     here laws (run_from most setting listed) setting listed course
-    (choose listed course.follow (enabled setting course.state)) thread taken listed_rest taken_rest refl at
+    (choose listed course.policy (enabled setting course.state)) thread taken listed_rest taken_rest refl at
     (run_from-begins most setting listed) listed_is taken_is among
 walk laws (first ∷ common) (suc most) setting listed thread taken listed_rest taken_rest course at listed_is taken_is among =
     further laws (run_from most setting listed) (course_after (length common) setting listed) setting listed course
-    (choose listed course.follow (enabled setting course.state)) thread taken first common listed_rest taken_rest refl at
+    (choose listed course.policy (enabled setting course.state)) thread taken first common listed_rest taken_rest refl at
     (run_from-begins most setting listed) listed_is taken_is
     (walk laws common most setting listed thread taken listed_rest taken_rest) among
 
@@ -194,7 +197,7 @@ refused-at laws most setting listed steps before thread apart next among =
     λ count one. Contains (enabled setting (course_after count setting listed (begun setting steps)).state) one in
     apart.apart
     (walk laws apart.front most setting listed apart.thread apart.taken apart.listed_rest apart.taken_rest
-    (begun setting steps) refl apart.listed_is apart.taken_is
+    (begun setting steps) (refl, refl) apart.listed_is apart.taken_is
     (subst (λ (count : ℕ). At count apart.thread) (sym apart.count) (subst (At before) same among)))
 
 refused-by : Chooser → (most : ℕ) (setting : Setting) (listed : List ℕ) (steps before thread : ℕ) (other : Option ℕ) →

@@ -8,7 +8,7 @@ use Rattle.machine_model.specs.declared.run.Outcome.{Outcome}
 use Rattle.machine_model.specs.declared.run.Outcome.TheVariants as outcomes
 use Rattle.machine_model.specs.declared.run.Run.{Run}
 use Rattle.machine_model.specs.Enabled.{enabled}
-use Rattle.machine_model.specs.Follow.{Choice, choose}
+use Rattle.machine_model.specs.Policy.{Choice, choose}
 use Rattle.machine_model.specs.Run.{Course, advanced, advanced_with, begun, onward_or_told, run_from, run_of}
 use Rattle.machine_model.specs.Setting.{Setting}
 use Rattle.race_top.specs.TraceReplay.{fault_at_end, fault_from, first_other, is_listed, replay_fault}
@@ -110,7 +110,7 @@ run_from-some : (most : ℕ) (setting : Setting) (listed : List ℕ) (course : C
 unfolding run_from advanced
 run_from-some zero setting listed course some spent = absurd (omega arith)
 run_from-some (suc most) setting listed course some spent =
-    spent-some (run_from most setting listed) setting course (choose listed course.follow (enabled setting course.state))
+    spent-some (run_from most setting listed) setting course (choose listed course.policy (enabled setting course.state))
     (run_from-begins most setting listed) spent
 
 pub replay_fault-none : (setting : Setting) (listed : List ℕ) (steps : ℕ) →

@@ -6,8 +6,10 @@ use Rattle.machine_model.specs.declared.run.Run.{Run}
 use Rattle.machine_model.specs.declared.run.TurnEnd.{TurnEnd}
 use Rattle.machine_model.specs.declared.run.TurnEnd.TheVariants as ends
 use Rattle.machine_model.specs.Enabled.{enabled}
-use Rattle.machine_model.specs.Follow.{Choice, Follow, at_front, choose}
-use Rattle.machine_model.specs.Laws.{ChoiceIsEnabled, ChoosesUnlessNone, ListedIsChosen}
+use Rattle.machine_model.specs.declared.mode.Mode.{Mode}
+use Rattle.machine_model.specs.declared.mode.Mode.TheVariants.{Before}
+use Rattle.machine_model.specs.Policy.{Choice, Policy, choose, from_front}
+use Rattle.machine_model.specs.PolicyLaws.{ChoiceIsEnabled, ChoiceIsLast, ChoosesUnlessNone, ListedIsChosen, MayChoose, mode_after}
 use Rattle.machine_model.specs.Run.{Course, advanced, advanced_by, advanced_with, after_turn, begun, onward_or_told, run_from, run_of}
 use Rattle.machine_model.specs.Setting.{Setting}
 use Rattle.machine_model.specs.Turn.{turn}
@@ -65,76 +67,100 @@ unfolding run_from advanced
 run_from-begins zero setting listed course = Begins-itself course.turns
 run_from-begins (suc most) setting listed course =
     advanced_with-begins (run_from most setting listed) setting course
-    (choose listed course.follow (enabled setting course.state)) (run_from-begins most setting listed)
+    (choose listed course.policy (enabled setting course.state)) (run_from-begins most setting listed)
+
+-- the chooser follows the list, up to the hold point
+abbrev pub Follows : Policy → Type 0
+Follows policy = policy.mode ≡ Before
+
+-- and it is at this place of the list
+abbrev pub IsAt : Policy → ℕ → Type 0
+IsAt policy place = Follows policy × (policy.follow.position ≡ place)
+
+-- it may choose each thread
+pub may-choose : (policy : Policy) (thread : ℕ) → Follows policy → MayChoose policy.mode thread
+may-choose policy thread follows = rw follows tt
+
+pub mode-stays : (policy : Policy) → Follows policy → mode_after policy.mode ≡ policy.mode
+mode-stays policy follows = rw follows refl
 
 -- the same course with another chooser
-abbrev followed : Follow → Course → Course
-followed follow course = record course { follow = follow }
+abbrev chosen_by : Policy → Course → Course
+chosen_by policy course = record course { policy = policy }
 
 -- from here on the runs are the same, where the list goes on as the first one does
 abbrev Agree : List ℕ → (Course → Run) → (Course → Run) → Type 0
-Agree again go other = (next : Course) (follow : Follow) → follow.position ≡ length next.turns →
-    again ≡ (go next).turns → other (followed follow next) ≡ go next
+Agree again go other = (next : Course) (policy : Policy) → Follows next.policy → IsAt policy (length next.turns) →
+    again ≡ (go next).turns → other (chosen_by policy next) ≡ go next
 
-advanced_by-agree : (again : List ℕ) (go other : Course → Run) (thread : ℕ) (next : Course) (follow : Follow) (end : TurnEnd) →
-    Agree again go other → follow.position ≡ length next.turns →
+advanced_by-agree : (again : List ℕ) (go other : Course → Run) (thread : ℕ) (next : Course) (policy : Policy) (end : TurnEnd) →
+    Agree again go other → Follows next.policy → IsAt policy (length next.turns) →
     again ≡ (onward_or_told go (advanced_by thread next end)).turns →
-    onward_or_told other (advanced_by thread (followed follow next) end) ≡ onward_or_told go (advanced_by thread next end)
-advanced_by-agree again go other thread next follow ends.Going agree at same = agree next follow at same
-advanced_by-agree again go other thread next follow (ends.Exit status) agree at same = refl
-advanced_by-agree again go other thread next follow (ends.Trap trap site) agree at same = refl
-advanced_by-agree again go other thread next follow ends.Spent agree at same = refl
+    onward_or_told other (advanced_by thread (chosen_by policy next) end) ≡ onward_or_told go (advanced_by thread next end)
+advanced_by-agree again go other thread next policy ends.Going agree follows at same = agree next policy follows at same
+advanced_by-agree again go other thread next policy (ends.Exit status) agree follows at same = refl
+advanced_by-agree again go other thread next policy (ends.Trap trap site) agree follows at same = refl
+advanced_by-agree again go other thread next policy ends.Spent agree follows at same = refl
 
 -- the laws of the chooser
 pub record Chooser : Type 0 where
   pub is_enabled : ChoiceIsEnabled
   pub is_some : ChoosesUnlessNone
+  pub is_last : ChoiceIsLast
   pub is_listed : ListedIsChosen
 
-choose-nothing : (listed : List ℕ) (follow : Follow) (threads : List ℕ) → threads ≡ [] → choose listed follow threads ≡ None
-unfolding choose
-choose-nothing listed follow threads none = rw none refl
+-- a chooser that follows the list goes on to follow it
+pub follows-next : Chooser → (listed : List ℕ) (policy : Policy) (threads : List ℕ) (choice : Choice) →
+    choose listed policy threads ≡ Some choice → Follows policy → Follows choice.next
+follows-next laws listed policy threads choice picked follows =
+    (laws.is_last listed policy threads choice picked).1 ∙ mode-stays policy follows ∙ follows
+
+-- where one chooses, the other does
+both-choose : Chooser → (listed again : List ℕ) (one other : Policy) (threads : List ℕ) (choice : Choice) →
+    choose listed one threads ≡ Some choice → Follows other → choose again other threads ≡ None → ⊥
+both-choose laws listed again one other threads choice picked follows none =
+    laws.is_some again other threads choice.thread none (laws.is_enabled listed one threads choice picked).0
+    (may-choose other choice.thread follows)
 
 advanced_with-agree : Chooser → (again : List ℕ) (go other : Course → Run) (setting : Setting) (listed : List ℕ)
-    (course : Course) (follow : Follow) (one two : Option Choice) →
-    choose listed course.follow (enabled setting course.state) ≡ one →
-    choose again follow (enabled setting course.state) ≡ two →
-    Agree again go other → Continues go → follow.position ≡ length course.turns →
+    (course : Course) (policy : Policy) (one two : Option Choice) →
+    choose listed course.policy (enabled setting course.state) ≡ one →
+    choose again policy (enabled setting course.state) ≡ two →
+    Agree again go other → Continues go → Follows course.policy → IsAt policy (length course.turns) →
     again ≡ (onward_or_told go (advanced_with setting course one)).turns →
-    onward_or_told other (advanced_with setting (followed follow course) two)
+    onward_or_told other (advanced_with setting (chosen_by policy course) two)
     ≡ onward_or_told go (advanced_with setting course one)
-advanced_with-agree laws again go other setting listed course follow None None first second agree continues at same = refl
-advanced_with-agree laws again go other setting listed course follow None (Some choice) first second agree continues at same =
-    let none = choose-nothing again follow (enabled setting course.state)
-    (laws.is_some listed course.follow (enabled setting course.state) first) in
-    absurd (let h : ⊥ = cc in h)
-advanced_with-agree laws again go other setting listed course follow (Some choice) None first second agree continues at same =
-    let none = choose-nothing listed course.follow (enabled setting course.state)
-    (laws.is_some again follow (enabled setting course.state) second) in
-    absurd (let h : ⊥ = cc in h)
-advanced_with-agree laws again go other setting listed course follow (Some choice) (Some other_choice) first second agree continues at same =
+advanced_with-agree laws again go other setting listed course policy None None first second agree continues follows at same = refl
+advanced_with-agree laws again go other setting listed course policy None (Some choice) first second agree continues follows at same =
+    absurd (both-choose laws again listed policy course.policy (enabled setting course.state) choice second follows first)
+advanced_with-agree laws again go other setting listed course policy (Some choice) None first second agree continues follows at same =
+    absurd (both-choose laws listed again course.policy policy (enabled setting course.state) choice first at.0 second)
+advanced_with-agree laws again go other setting listed course policy (Some choice) (Some other_choice) first second agree continues follows at same =
+    let threads = enabled setting course.state in
     let begins = chosen-begins go setting course choice continues in
-    let among = laws.is_enabled listed course.follow (enabled setting course.state) choice first in
-    let next : slice_get again follow.position ≡ Some choice.thread =
-    rw at (next-in course.turns choice.thread again begins.0 (same ∙ begins.1)) in
-    let picks = laws.is_listed again follow (enabled setting course.state) other_choice choice.thread next among second in
+    let among = (laws.is_enabled listed course.policy threads choice first).0 in
+    let next : slice_get again policy.follow.position ≡ Some choice.thread =
+    rw at.1 (next-in course.turns choice.thread again begins.0 (same ∙ begins.1)) in
+    let picks = laws.is_listed again policy threads other_choice choice.thread (mode-stays policy at.0)
+    (may-choose policy choice.thread at.0) next among second in
     let turned = turn setting course.state choice.thread course.left in
     rw picks.0
     (advanced_by-agree again go other choice.thread (after_turn course choice turned) other_choice.next turned.end agree
-    (omega (arith, picks.1, length-append course.turns (choice.thread ∷ []))) same)
+    (follows-next laws listed course.policy threads choice first follows)
+    (follows-next laws again policy threads other_choice second at.0, omega (arith, picks.1, at.1, length-append course.turns (choice.thread ∷ []))) same)
 
 run_from-agree : Chooser → (again : List ℕ) (most : ℕ) (setting : Setting) (listed : List ℕ) →
     Agree again (run_from most setting listed) (run_from most setting again)
 unfolding run_from advanced
-run_from-agree laws again zero setting listed = λ course follow at same. refl
-run_from-agree laws again (suc most) setting listed = λ course follow at same.
-    advanced_with-agree laws again (run_from most setting listed) (run_from most setting again) setting listed course follow
-    (choose listed course.follow (enabled setting course.state)) (choose again follow (enabled setting course.state))
-    refl refl (run_from-agree laws again most setting listed) (run_from-begins most setting listed) at same
+run_from-agree laws again zero setting listed = λ course policy follows at same. refl
+run_from-agree laws again (suc most) setting listed = λ course policy follows at same.
+    advanced_with-agree laws again (run_from most setting listed) (run_from most setting again) setting listed course policy
+    (choose listed course.policy (enabled setting course.state)) (choose again policy (enabled setting course.state))
+    refl refl (run_from-agree laws again most setting listed) (run_from-begins most setting listed) follows at same
 
 pub run_of-turns : Chooser → (setting : Setting) (listed : List ℕ) (steps : ℕ) →
     run_of setting (run_of setting listed steps).turns steps ≡ run_of setting listed steps
 unfolding run_of
 run_of-turns laws setting listed steps =
     run_from-agree laws (run_from (steps + 1) setting listed (begun setting steps)).turns (steps + 1) setting listed
-    (begun setting steps) at_front refl refl
+    (begun setting steps) from_front refl (refl, refl) refl

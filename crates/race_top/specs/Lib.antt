@@ -5,7 +5,7 @@ pub mod CaseSpelling
 pub mod CaseText
 pub mod CaseWords
 pub mod Command
-pub mod ConcreteMachine
+pub mod Course
 pub mod Due
 pub mod File
 pub mod Files
@@ -20,17 +20,12 @@ pub mod IrRead
 pub mod IrScope
 pub mod IrSpelling
 pub mod IrTable
-pub mod MachineAdvance
-pub mod MachineFrame
-pub mod MachineTurns
 pub mod Refusal
 pub mod ReplayLaws
 pub mod ReportItems
 pub mod ReportLaws
 pub mod ReportText
 pub mod ReportTurns
-pub mod Runnable
 pub mod Status
 pub mod Stop
 pub mod TraceReplay
-pub mod TurnPolicy

@@ -4,11 +4,8 @@ use Rattle.std.specs.List.{zip}
 use Rattle.machine_model.specs.declared.run.Outcome.{Outcome}
 use Rattle.machine_model.specs.declared.run.Outcome.TheVariants as outcomes
 use Rattle.machine_model.specs.declared.run.Run.{Run}
-use Rattle.machine_model.specs.Run.{Advance, Course}
-use Rattle.machine_model.specs.Run.Advance.{Onward, Over}
 use Rattle.race_top.specs.declared.trace_replay.ReplayError.{ReplayError}
 use Rattle.race_top.specs.declared.trace_replay.ReplayError.TheVariants as errors
-use Rattle.race_top.specs.declared.trace_replay.course.Course.{Course as Walked}
 
 -- why the listed turns can't be taken as they are, with the number of the turn, counted from 1
 pub data ReplayFault : Type 0 where
@@ -45,18 +42,3 @@ Tells (Err (errors.TurnNotEnabled turn)) fault = fault ≡ Some (TurnNotEnabled 
 Tells (Err (errors.EndsEarly turn)) fault = fault ≡ Some (EndsEarly turn)
 Tells (Err (errors.Spent turn)) fault = fault ≡ Some (Spent turn)
 Tells (Err errors.NoMemory) fault = Unit {0}
-
--- the course that the code keeps
-abbrev pub course_of : Walked → Course
-course_of walked = record {
-  state = walked.state;
-  left = walked.left;
-  decided = walked.decisions.items;
-  turns = walked.turns.items;
-  follow = walked.policy.follow;
-}
-
--- a turn was taken and the run goes on, or it is over
-abbrev pub advance_of : Course → Option Outcome → Advance
-advance_of course None = Onward course
-advance_of course (Some outcome) = Over course outcome

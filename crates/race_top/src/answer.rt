@@ -2,7 +2,7 @@
 
 ghost use Rattle.std.specs.Prelude.{◌<◌, ◌≤◌, ◌^◌, length, vec_len, IfOk};
 ghost use Rattle.race_top.specs.Answer.{Gives, StopsByBytes};
-ghost use Rattle.race_top.specs.Runnable.{IsSmall};
+ghost use Rattle.machine_model.specs.Runnable.{IsRunnable};
 ghost use Rattle.race_top.specs.File.{limit_of};
 ghost use Rattle.race_top.specs.Due.{CaseOf, ModuleOf, ReplayOf, Replayed};
 ghost use Rattle.race_top.specs.Status.{IsReplay};
@@ -38,7 +38,7 @@ pub fn replay_text(alloc: Global, files: &Files) -> Result<Vec<u8>, Stop>
 fn module_of(alloc: Global, text: &[u8]) -> Result<Module, Stop>
     requires { length text.now ≤ limit_of File.Module }
     ensures due { Gives (λ code. code) result (ModuleOf text.now) }
-    ensures small { IfOk result IsSmall }
+    ensures runnable { IfOk result IsRunnable }
     ensures cause { StopsByBytes result }
 {
     let lines = read_lines(alloc, text)?;
@@ -58,7 +58,7 @@ fn case_of(alloc: Global, text: &[u8]) -> Result<Case, Stop>
 /// The recorded run, where its listed turns can be taken.
 #[tactic(auto, unfolding(crate::specs::Due::Replayed))]
 fn replayed(alloc: Global, code: &Module, case: &Case) -> Result<Run, Stop>
-    requires small { IsSmall code.now }
+    requires runnable { IsRunnable code.now }
     requires listed { length case.now.turns < 2 ^ 32 }
     ensures due { Gives (λ run. run) result (Replayed code.now case.now) }
     ensures cause { StopsByBytes result }

@@ -25,7 +25,7 @@ mod text;
 ghost use Rattle.std.specs.Prelude.{◌≡◌, ◌<◌, ◌^◌, length, IfOk};
 ghost use Rattle.std.specs.List.{list_any};
 ghost use Rattle.race_top.specs.IrCheck.{Gives, bad_line, module_of};
-ghost use Rattle.race_top.specs.Runnable.{IsSmall};
+ghost use Rattle.machine_model.specs.Runnable.{IsRunnable};
 ghost use Rattle.race_top.specs.IrNames.{has_form, is_define_main};
 ghost use Rattle.race_top.specs.declared.ir_check.ModuleError.TheVariants.{NoMemory as OutOfMemory};
 
@@ -62,7 +62,7 @@ impl From<NoMemory> for ModuleError {
 pub fn check_module<'a, 's>(alloc: Global, lines: &'a [Line<'s>]) -> Result<Module, ModuleError>
     requires { length lines.now < 2 ^ 32 }
     ensures exact { Gives result (module_of lines.now) }
-    ensures small { IfOk result IsSmall }
+    ensures runnable { IfOk result IsRunnable }
 {
     if let Some(line) = bad_line(alloc, lines)? {
         return Err(ModuleError::Unsupported { line });

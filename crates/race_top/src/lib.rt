@@ -11,8 +11,7 @@
 //!
 //! - `ir_lex`, `ir_read`, `ir_check`: the tokens of a module's lines, their forms, and the checked module
 //! - `case_text`: the case that a text spells
-//! - `concrete_machine`: turns of threads over a state that is changed in place
-//! - `turn_policy`: the chooser that follows a list of turns
+//! - `course`: a run so far, turn by turn, of a machine and a chooser
 //! - `trace_replay`: the recorded run
 //! - `report_text`: the text of a replayed run
 #![tactic(auto)]
@@ -20,7 +19,7 @@
 mod answer;
 mod case_text;
 mod command;
-mod concrete_machine;
+mod course;
 mod file;
 mod files;
 mod ir_check;
@@ -33,7 +32,6 @@ mod status;
 mod stop;
 mod top;
 mod trace_replay;
-mod turn_policy;
 
 pub use command::Command;
 pub use file::File;

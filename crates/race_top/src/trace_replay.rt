@@ -1,23 +1,21 @@
 //! The recorded run: the primary of a case's input, and whether it takes the listed turns.
 //!
-//! - `course`: a run so far, turn by turn
 //! - `laws`: what holds of every recorded run
 
-mod course;
 pub mod laws;
 
 ghost use Rattle.std.specs.Prelude.{◌≡◌, ◌<◌, ◌^◌, length, IfOk, IfSome};
 ghost use Rattle.machine_model.specs.Primary.{Primary};
-ghost use Rattle.machine_model.specs.Run.{run_of};
-ghost use Rattle.race_top.specs.Runnable.{IsSmall};
+ghost use Rattle.machine_model.specs.Runnable.{IsRunnable};
 ghost use Rattle.race_top.specs.TraceReplay.{Tells, fault_at_end, first_other, replay_fault};
 
-use crate::concrete_machine::Setting;
-use crate::trace_replay::course::Course;
-use ir_types::Module;
+use crate::course::{Advance, Course};
+use ir_types::{Input, Module};
 use machine_model::{Case, Outcome, Run};
-use rc_base::NoMemory;
+use rc_base::{NoMemory, Steps};
 use std::alloc::Global;
+use std::marker::Brand;
+use std::sync::ledger::{Blank, Ledger};
 use thiserror::Error;
 
 /// Why the recorded run can't be replayed. Turns are numbered from 1.
@@ -36,38 +34,39 @@ pub enum ReplayError {
     NoMemory,
 }
 
-/// The run that follows a list of turns.
-fn run_within(
+/// The run of this input that follows the recorded turns, its steps counted.
+fn run_counted<L: Ledger>(
     alloc: Global,
-    setting: &Setting<'_>,
-    listed: &[u8],
-    steps: u32,
+    code: &Module,
+    case: &Case,
+    input: &Input,
+    blank: Blank,
 ) -> Result<Run, NoMemory>
-    requires { IsSmall setting.now.code }
-    ensures { IfOk result (λ run. run ≡ run_of setting.now listed.now steps) }
+    requires runnable { IsRunnable code.now }
+    requires name { blank.name ≡ L.name }
+    requires parts { blank.parts ≡ L.parts }
+    requires some { 0 < blank.parts }
+    ensures { IfOk result (λ run. run ≡ Primary code.now case.now input.now) }
 {
-    let mut course = Course::begin(alloc, setting, listed, steps)?;
+    let mut steps = Steps::<L>::new(blank);
+    let mut course = Course::begin(alloc, code, case, input)?;
     // Each turn costs at least 1, or is cut.
-    let most = u64::from(steps) + 1;
+    let most = u64::from(case.steps) + 1;
     for _ in 0..most {
-        if let Some(outcome) = course.advance(alloc, setting)? {
-            return Ok(course.tell(outcome));
+        match course.advance(code, case, input, &mut steps)? {
+            Advance::Onward(next) => course = next,
+            Advance::Over(last, outcome) => return Ok(last.tell(outcome)),
         }
     }
     Ok(course.tell(Outcome::Spent))
 }
 
-/// The primary of the case's input: the run that follows the recorded turns.
-pub fn primary(alloc: Global, code: &Module, case: &Case) -> Result<Run, NoMemory>
-    requires { IsSmall code.now }
-    ensures { IfOk result (λ run. run ≡ Primary code.now case.now case.now.input) }
+/// The primary of an input: the run that follows the recorded turns.
+pub fn primary(alloc: Global, code: &Module, case: &Case, input: &Input) -> Result<Run, NoMemory>
+    requires { IsRunnable code.now }
+    ensures { IfOk result (λ run. run ≡ Primary code.now case.now input.now) }
 {
-    let setting = Setting {
-        module: code,
-        input: &case.input,
-        watch: &case.watch.items,
-    };
-    run_within(alloc, &setting, &case.turns.items, case.steps)
+    run_counted::<Brand>(alloc, code, case, input, Blank::new(1))
 }
 
 /// The place of the first turn that another thread takes than the listed one.
@@ -114,12 +113,12 @@ fn check_turns(listed: &[u8], run: &Run) -> Result<(), ReplayError>
 
 /// Replays the recorded run.
 pub fn replay(alloc: Global, code: &Module, case: &Case) -> Result<Run, ReplayError>
-    requires small { IsSmall code.now }
+    requires runnable { IsRunnable code.now }
     requires listed { length case.now.turns < 2 ^ 32 }
     ensures run { IfOk result (λ run. run ≡ Primary code.now case.now case.now.input) }
     ensures fault { Tells result (replay_fault case.now.turns (Primary code.now case.now case.now.input)) }
 {
-    let run = primary(alloc, code, case).map_err(|_| ReplayError::NoMemory)?;
+    let run = primary(alloc, code, case, &case.input).map_err(|_| ReplayError::NoMemory)?;
     check_turns(&case.turns.items, &run)?;
     Ok(run)
 }

@@ -3,7 +3,8 @@ use Rattle.machine_model.specs.Call.{is_blocked, call_of}
 use Rattle.machine_model.specs.Code.{next_in}
 use Rattle.machine_model.specs.Decision.{places_of, outcomes_of}
 use Rattle.machine_model.specs.Enabled.{enabled, is_enabled, waits, waits_for}
-use Rattle.machine_model.specs.Follow.{choose}
+use Rattle.machine_model.specs.Follow.{follow_turns}
+use Rattle.machine_model.specs.Policy.{choose}
 use Rattle.machine_model.specs.Instruction.{effect_of}
 use Rattle.machine_model.specs.Memory.{read, written, bytes_of}
 use Rattle.machine_model.specs.Operation.{is_visible, visible_effect}
@@ -12,7 +13,7 @@ use Rattle.machine_model.specs.Turn.{turn, ran, moved, charged, rest_of_turn, op
 use Rattle.machine_model.proofs.laws.worked_example.Goals as goal
 
 pub returns : goal.returns
-unfolding run_of run_from advanced turn ran moved charged rest_of_turn operated choose enabled is_enabled waits waits_for is_visible visible_effect is_blocked call_of next_in places_of outcomes_of effect_of read written bytes_of
+unfolding run_of run_from advanced turn ran moved charged rest_of_turn operated choose follow_turns enabled is_enabled waits waits_for is_visible visible_effect is_blocked call_of next_in places_of outcomes_of effect_of read written bytes_of
 returns c = record {
   whole = λ input. refl;
   larger = λ input. refl;

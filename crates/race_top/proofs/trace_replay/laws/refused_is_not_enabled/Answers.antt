@@ -5,5 +5,6 @@ pub returns : goal.returns
 returns c = refused-not_enabled (record {
   is_enabled = c.chooser_follows_the_list.ensures.enabled;
   is_some = c.chooser_follows_the_list.ensures.some;
+  is_last = c.chooser_follows_the_list.ensures.last;
   is_listed = c.chooser_follows_the_list.ensures.listed;
 })

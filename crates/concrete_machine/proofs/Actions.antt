@@ -1,0 +1,135 @@
+-- What a visible instruction does, by its kind, and what is cut.
+use Rattle.std.proofs.Common.{◌≡◌, ℕ, ◌≤◌, true, false, cond, leb, List, map, Option, Some, None, ◌-◌, ◌++◌, length, refl, sym, ap, ◌∙◌, subst, arith}
+use Rattle.std.specs.Prelude.{slice_get}
+use Rattle.std.proofs.lemmas.Bool.{le-leb}
+use Rattle.ir_types.specs.declared.external.Extern.{Extern}
+use Rattle.ir_types.specs.declared.external.Extern.TheVariants.{Putchar}
+use Rattle.ir_types.specs.declared.instruction.Inst.{Inst}
+use Rattle.ir_types.specs.declared.instruction.Inst.TheVariants.{External, Ret}
+use Rattle.ir_types.specs.declared.instruction.Operand.{Operand}
+use Rattle.ir_types.specs.declared.instruction.Site.{Site}
+use Rattle.machine_model.specs.declared.run.TurnEnd.TheVariants.{Spent}
+use Rattle.machine_model.specs.declared.state.Frame.{Frame}
+use Rattle.machine_model.specs.declared.state.State.{State}
+use Rattle.machine_model.specs.declared.state.Thread.{Thread}
+use Rattle.machine_model.specs.Code.{Placed}
+use Rattle.machine_model.specs.Call.{call_of, is_blocked}
+use Rattle.machine_model.specs.Decision.{outcomes_of}
+use Rattle.machine_model.specs.Effect.{Effect, mapped}
+use Rattle.machine_model.specs.Effect.Effect.{Done, Exits, Traps, Blocks}
+use Rattle.machine_model.specs.Instruction.{effect_of}
+use Rattle.machine_model.specs.Operation.{charged_for_items, footprint_of, put_back, returned, visible_effect}
+use Rattle.machine_model.specs.Setting.{Setting}
+use Rattle.machine_model.specs.Thread.{top, value_of}
+use Rattle.machine_model.specs.Turn.{Move, charged, operated_at, operated_in, stops}
+use Rattle.concrete_machine.specs.declared.operation.Action.{Action}
+use Rattle.concrete_machine.specs.Call.{frames_of, items_of_call}
+use Rattle.concrete_machine.specs.Code.{next_at, next_of}
+use Rattle.concrete_machine.specs.Operation.{Acts, IsTopOf, items_of}
+
+-- a call that is not blocked is made
+visible_call : (setting : Setting) (state : State) (number : ℕ) (thread : Thread) (frame : Frame) (decided : List ℕ)
+    (to : Option ℕ) (which : Extern) (arguments : List Operand) → is_blocked state which decided ≡ false →
+    visible_effect setting state number thread frame decided (External to which arguments)
+    ≡ charged_for_items (returned state.output number frame to) (call_of setting state which (map (value_of frame) arguments) decided)
+unfolding visible_effect
+visible_call setting state number thread frame decided to which arguments free =
+    ap (λ test. cond test Blocks (charged_for_items (returned state.output number frame to) (call_of setting state which (map (value_of frame) arguments) decided))) free
+
+-- all but calls and returns change only their thread and the objects
+visible_other : (setting : Setting) (state : State) (number : ℕ) (thread : Thread) (frame : Frame) (decided : List ℕ) (inst : Inst) →
+    ((to : Option ℕ) (which : Extern) (arguments : List Operand) → inst ≡ External to which arguments → ⊥) →
+    ((value : Option Operand) → inst ≡ Ret value → ⊥) →
+    (items_of inst ≡ 0) × (visible_effect setting state number thread frame decided inst
+    ≡ mapped (put_back state number) (effect_of setting number (footprint_of state thread) frame decided inst))
+unfolding visible_effect
+visible_other setting state number thread frame decided (External to which arguments) call return =
+    absurd (call to which arguments refl)
+visible_other setting state number thread frame decided (Ret value) call return = absurd (return value refl)
+visible_other setting state number thread frame decided inst call return = (refl, refl)
+
+-- where nothing is left all is cut
+charged_none : {S : Type 0} (before : S) (left : ℕ) (decided : List ℕ) (site : Site) (effect : Effect S) → left ≤ 0 →
+    charged before left decided site effect ≡ stops before left decided Spent
+unfolding charged
+charged_none before left decided site (Done more after) none =
+    let short : leb left more ≡ true = le-leb left more (omega arith) in rw short refl
+charged_none before left decided site (Exits more status after) none =
+    let short : leb left more ≡ true = le-leb left more (omega arith) in rw short refl
+charged_none before left decided site (Traps trap) none =
+    let spent : left ≡ 0 = omega arith in rw spent refl
+charged_none before left decided site Blocks none = refl
+
+-- where no more is left than an instruction prints it is cut
+pub charged_short : (setting : Setting) (state : State) (number left : ℕ) (thread : Thread) (frame : Frame) (outcomes decided : List ℕ)
+    (site : Site) (inst : Inst) → left ≤ items_of inst →
+    charged state left outcomes site (visible_effect setting state number thread frame decided inst) ≡ stops state left outcomes Spent
+unfolding charged visible_effect is_blocked call_of
+charged_short setting state number left thread frame outcomes decided site (External to Putchar arguments) short =
+    rw (le-leb left 1 short) refl
+charged_short setting state number left thread frame outcomes decided site (External to which arguments) short =
+    charged_none state left outcomes site (visible_effect setting state number thread frame decided (External to which arguments)) short
+charged_short setting state number left thread frame outcomes decided site inst short =
+    charged_none state left outcomes site (visible_effect setting state number thread frame decided inst) short
+
+-- what a call that is not blocked did
+pub acts_call : (action : Action) (setting : Setting) (before after : State) (number : ℕ) (thread : Thread) (frame : Frame)
+    (decided : List ℕ) (inst : Inst) (to : Option ℕ) (which : Extern) (arguments : List Operand) →
+    inst ≡ External to which arguments → is_blocked before which decided ≡ false →
+    Acts action (items_of_call which) before after
+    (charged_for_items (returned before.output number frame to) (call_of setting before which (map (value_of frame) arguments) decided)) →
+    Acts action (items_of inst) before after (visible_effect setting before number thread frame decided inst)
+acts_call action setting before after number thread frame decided inst to which arguments is free acts =
+    let AtEffect : Effect State → Type 0 = λ effect. Acts action (items_of_call which) before after effect in
+    let AtInst : Inst → Type 0 = λ other. Acts action (items_of other) before after (visible_effect setting before number thread frame decided other) in
+    subst AtInst (sym is) (subst AtEffect (sym (visible_call setting before number thread frame decided to which arguments free)) acts)
+
+-- what an instruction did that is neither a call nor a return
+pub acts_other : (action : Action) (setting : Setting) (before after : State) (number : ℕ) (thread : Thread) (frame : Frame)
+    (decided : List ℕ) (inst : Inst) →
+    ((to : Option ℕ) (which : Extern) (arguments : List Operand) → inst ≡ External to which arguments → ⊥) →
+    ((value : Option Operand) → inst ≡ Ret value → ⊥) →
+    Acts action 0 before after (mapped (put_back before number) (effect_of setting number (footprint_of before thread) frame decided inst)) →
+    Acts action (items_of inst) before after (visible_effect setting before number thread frame decided inst)
+acts_other action setting before after number thread frame decided inst call return acts =
+    let facts = visible_other setting before number thread frame decided inst call return in
+    let AtEffect : Effect State → Type 0 = λ effect. Acts action 0 before after effect in
+    let AtCount : ℕ → Type 0 = λ count. Acts action count before after (visible_effect setting before number thread frame decided inst) in
+    subst AtCount (sym facts.0) (subst AtEffect (sym facts.1) acts)
+
+-- who keeps its frames keeps the frame that runs
+pub is_top_kept : (old new : Option Thread) (frame : Frame) → frames_of new ≡ frames_of old → IsTopOf old frame → IsTopOf new frame
+is_top_kept None new frame same is = absurd is
+is_top_kept (Some thread) None frame same is =
+    let none : None ≡ top thread = ap (λ (frames : List Frame). slice_get frames (length frames - 1)) same in
+    absurd (let h : ⊥ = cc in h)
+is_top_kept (Some thread) (Some after) frame same is =
+    ap (λ (frames : List Frame). slice_get frames (length frames - 1)) same ∙ is
+
+moves_at : (setting : Setting) (before : State) (number left : ℕ) (thread : Thread) (places more numbers : List ℕ)
+    (placed : Placed) (move : Move State) (found : Option Frame) → next_at setting.code found ≡ Some placed →
+    ((frame : Frame) → found ≡ Some frame → more ≡ outcomes_of setting.code before.objects frame placed.inst) →
+    numbers ≡ places ++ more →
+    ((frame : Frame) → found ≡ Some frame →
+    charged before left more placed.site (visible_effect setting before number thread frame numbers placed.inst) ≡ move) →
+    operated_in setting before number left thread places found ≡ move
+moves_at setting before number left thread places more numbers placed move None next outcomes all moves =
+    absurd (let h : ⊥ = cc in h)
+moves_at setting before number left thread places more numbers placed move (Some frame) next outcomes all moves =
+    ap (operated_at setting before number left thread places frame) next
+    ∙ ap (λ others. charged before left others placed.site
+    (visible_effect setting before number thread frame (places ++ others) placed.inst)) (sym (outcomes frame refl))
+    ∙ ap (λ others. charged before left more placed.site
+    (visible_effect setting before number thread frame others placed.inst)) (sym all)
+    ∙ moves frame refl
+
+-- what the pending instruction did
+pub moves_pending : (setting : Setting) (before : State) (number left : ℕ) (thread : Thread) (places more numbers : List ℕ)
+    (placed : Placed) (move : Move State) → next_of setting.code thread ≡ Some placed →
+    ((frame : Frame) → top thread ≡ Some frame → more ≡ outcomes_of setting.code before.objects frame placed.inst) →
+    numbers ≡ places ++ more →
+    ((frame : Frame) → top thread ≡ Some frame →
+    charged before left more placed.site (visible_effect setting before number thread frame numbers placed.inst) ≡ move) →
+    operated_in setting before number left thread places (top thread) ≡ move
+moves_pending setting before number left thread places more numbers placed move next outcomes all moves =
+    moves_at setting before number left thread places more numbers placed move (top thread) next outcomes all moves

@@ -1,0 +1,83 @@
+-- The threads that are enabled, from what each waits to do, and the list of them.
+use Rattle.std.proofs.Common.{◌≡◌, ℕ, zero, suc, ◌+◌, Bool, not, ◌&&◌, cond, List, map, Option, Some, None, [], ◌∷◌, ◌++◌, refl, sym, ap, ◌∙◌, add-one, add-zero, zero-add, arith}
+use Rattle.std.specs.Prelude.{option_map, slice_get}
+use Rattle.std.specs.List.{filter, range_with_len}
+use Rattle.std.proofs.lemmas.List.Elements.{filter-append}
+use Rattle.std.proofs.lemmas.Option.{slice_get-map}
+use Rattle.ir_types.specs.declared.external.Extern.{Extern}
+use Rattle.ir_types.specs.declared.external.Extern.TheVariants.{Join}
+use Rattle.ir_types.specs.declared.instruction.Inst.{Inst}
+use Rattle.ir_types.specs.declared.instruction.Inst.TheVariants.{External}
+use Rattle.machine_model.specs.declared.state.Frame.{Frame}
+use Rattle.machine_model.specs.declared.state.Operation.{Operation}
+use Rattle.machine_model.specs.declared.state.Operation.TheVariants.{Start, At, CondReturn, Nothing}
+use Rattle.machine_model.specs.declared.state.State.{State}
+use Rattle.machine_model.specs.declared.state.Thread.{Thread}
+use Rattle.machine_model.specs.Call.{is_blocked}
+use Rattle.machine_model.specs.Code.{Placed, next_in}
+use Rattle.machine_model.specs.Enabled.{is_enabled, waits, waits_at, waits_for, waits_in}
+use Rattle.machine_model.specs.Enabled.{may_run as may_run_in}
+use Rattle.machine_model.specs.Setting.{Setting}
+use Rattle.machine_model.specs.Thread.{has_ended, top}
+use Rattle.concrete_machine.specs.declared.waiting.Waiting.{Waiting}
+use Rattle.concrete_machine.specs.Waiting.{awaits, joined, joined_by, joined_in, joined_inst, joined_placed, may_run, waiting_of}
+
+-- a call waits for the thread that it joins
+blocked-awaits : (state : State) (decided : List ℕ) (which : Extern) →
+    is_blocked state which decided ≡ awaits state.threads (joined_by which decided)
+unfolding is_blocked
+blocked-awaits state decided Join = refl
+blocked-awaits state decided which = refl
+
+waits_for-awaits : (state : State) (decided : List ℕ) (inst : Inst) →
+    waits_for state decided inst ≡ awaits state.threads (joined_inst decided inst)
+unfolding waits_for
+waits_for-awaits state decided (External to which arguments) = blocked-awaits state decided which
+waits_for-awaits state decided inst = refl
+
+waits_at-awaits : (state : State) (decided : List ℕ) (placed : Option Placed) →
+    waits_at state decided placed ≡ awaits state.threads (joined_placed decided placed)
+waits_at-awaits state decided None = refl
+waits_at-awaits state decided (Some placed) = waits_for-awaits state decided placed.inst
+
+waits_in-awaits : (setting : Setting) (state : State) (decided : List ℕ) (frame : Option Frame) →
+    waits_in setting state decided frame ≡ awaits state.threads (joined_in setting.code decided frame)
+waits_in-awaits setting state decided None = refl
+waits_in-awaits setting state decided (Some frame) = waits_at-awaits state decided (next_in setting.code frame)
+
+waits-awaits : (setting : Setting) (state : State) (thread : Thread) (operation : Operation) →
+    waits setting state thread operation ≡ awaits state.threads (joined setting.code thread operation)
+unfolding waits joined
+waits-awaits setting state thread Start = refl
+waits-awaits setting state thread (At site decided) = waits_in-awaits setting state decided (top thread)
+waits-awaits setting state thread (CondReturn site decided) = refl
+waits-awaits setting state thread Nothing = refl
+
+may_run-listed : (setting : Setting) (state : State) (thread : Option Thread) →
+    may_run state.threads thread (option_map (waiting_of setting.code) thread) ≡ may_run_in setting state thread
+may_run-listed setting state None = refl
+may_run-listed setting state (Some thread) =
+    ap (λ waits. not (has_ended thread) && not waits) (sym (waits-awaits setting state thread thread.pending))
+
+-- what the threads wait to do tells which may run
+pub enabled-listed : (setting : Setting) (state : State) (waiting : List Waiting) (number : ℕ) →
+    waiting ≡ map (waiting_of setting.code) state.threads →
+    may_run state.threads (slice_get state.threads number) (slice_get waiting number) ≡ is_enabled setting state number
+unfolding is_enabled
+enabled-listed setting state waiting number are =
+    ap (λ found. may_run state.threads (slice_get state.threads number) found)
+    (ap (λ list. slice_get list number) are ∙ slice_get-map (waiting_of setting.code) state.threads number)
+    ∙ may_run-listed setting state (slice_get state.threads number)
+
+range_more : (a n : ℕ) → range_with_len a (n + 1) ≡ range_with_len a n ++ (a + n) ∷ []
+range_more a zero = rw add-zero
+range_more a (suc n) =
+    let rest = range_more (a + 1) n in
+    let last : a + 1 + n ≡ a + suc n = omega arith in
+    rw (add-one (suc n)) (ap (λ list. a ∷ list) (ap (range_with_len (a + 1)) (sym (add-one n)) ∙ rest ∙ ap (λ k. range_with_len (a + 1) n ++ k ∷ []) last))
+
+-- one more number is looked at
+pub filter_more : (p : ℕ → Bool) (n : ℕ) →
+    filter p (range_with_len 0 (n + 1)) ≡ filter p (range_with_len 0 n) ++ cond (p n) (n ∷ []) []
+filter_more p n =
+    ap (filter p) (range_more 0 n) ∙ filter-append p (range_with_len 0 n) ((0 + n) ∷ []) ∙ rw zero-add

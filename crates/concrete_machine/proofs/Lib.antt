@@ -1,0 +1,6 @@
+pub mod Actions
+pub mod Cost
+pub mod Enabled
+pub mod Moves
+pub mod Ranges
+pub mod RestOfTurn

@@ -1,0 +1,6 @@
+use Rattle.machine_model.specs.Instruction.{effect_of}
+use Rattle.concrete_machine.proofs.effect.apply.Goals as goal
+
+pub returns-in-Load : goal.returns-in-Load
+unfolding effect_of
+returns-in-Load c number frame is = rw (c.in-Load.is, ← c.number_at.ensures) (c.load.ensures frame is)

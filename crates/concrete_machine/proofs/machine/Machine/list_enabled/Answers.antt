@@ -1,0 +1,43 @@
+use Rattle.std.proofs.Common.{◌≡◌, ◌<◌, ◌++◌, ◌∷◌, [], All, List, ℕ, length, sym, ap, ◌∙◌, subst, arith}
+use Rattle.std.specs.List.{filter, range_with_len}
+use Rattle.std.proofs.lemmas.Grind.{common_steps}
+use Rattle.std.proofs.lemmas.List.Elements.{All-push}
+use Rattle.machine_model.specs.Enabled.{enabled, is_enabled}
+use Rattle.concrete_machine.specs.Machine.{Machine}
+use Rattle.concrete_machine.proofs.Enabled.{filter_more}
+use Rattle.concrete_machine.proofs.machine.Machine.list_enabled.Goals as goal
+use Rattle.concrete_machine.proofs.machine.Machine.list_enabled.Goals.{then-enabled+in_ok-push, else-enabled}
+
+pub loop-t-preserved : goal.loop-t-preserved
+loop-t-preserved c =
+    let Few : List ℕ → Type 0 = λ listed. All (λ t. t < 16) listed in
+    let small : c.loop-t.t < 16 = omega (arith, c.loop-t-test.true, c.min-most.ensures) in (
+      λ setting runs.
+          let more = filter_more (is_enabled setting c.args.self.now.state) c.loop-t.t in
+          let before = c.loop-t.invariant.0 setting runs in
+          let answer = c.enabled.ensures setting runs in
+          elim c.if-enabled.branch [
+            | then-enabled+in_ok-push w ↦ grind (arith, common_steps, more)
+            | else-enabled w ↦ grind (arith, common_steps, more)
+          ],
+      elim c.if-enabled.branch [
+        | then-enabled+in_ok-push w ↦
+            let items : c.if-enabled.list.items ≡ c.loop-t.list.items ++ c.loop-t.t ∷ [] = grind (arith, common_steps) in
+            subst Few (sym items) (All-push (λ t. t < 16) c.loop-t.list.items c.loop-t.t c.loop-t.invariant.1 small)
+        | else-enabled w ↦
+            let items : c.if-enabled.list.items ≡ c.loop-t.list.items = grind (arith, common_steps) in
+            subst Few (sym items) c.loop-t.invariant.1
+      ],
+    )
+
+pub returns-clause-value : goal.returns-clause-value
+unfolding enabled
+returns-clause-value c = λ setting runs.
+    let threads = c.args.self.now.state.threads in
+    let count : c.len.result ≡ length threads =
+    c.len.ensures ∙ ap (λ (machine : Machine). length machine.state.threads) c.self.view_is in
+    let few = runs.few in
+    let all : c.loop-t.t ≡ length threads =
+    omega (arith, count, few, c.loop-t-test.false, c.loop-t.auto.t-end, c.min-most.ensures) in
+    c.loop-t.invariant.0 setting runs
+    ∙ ap (λ n. filter (is_enabled setting c.args.self.now.state) (range_with_len 0 n)) all

@@ -1,0 +1,62 @@
+-- What the code of external calls answers.
+use Rattle.std.specs.Prelude.{◌≡◌, ℕ, ◌<◌, ◌==◌, List, [], length, slice_get, Option, Some, None, Result, Ok, Err, option_to_list, if◌then◌else◌}
+use Rattle.ir_types.specs.declared.external.Extern.{Extern}
+use Rattle.ir_types.specs.declared.external.Extern.TheVariants.{Putchar}
+use Rattle.machine_model.specs.declared.state.Frame.{Frame}
+use Rattle.machine_model.specs.declared.state.Object.{Object}
+use Rattle.machine_model.specs.declared.state.State.{State}
+use Rattle.machine_model.specs.declared.state.Thread.{Thread}
+use Rattle.machine_model.specs.declared.trap.Trap.{Trap}
+use Rattle.machine_model.specs.Call.{Returned, result_of}
+use Rattle.machine_model.specs.Effect.{Effect}
+use Rattle.machine_model.specs.Effect.Effect.{Done, Traps, Blocks}
+use Rattle.machine_model.specs.Memory.{written}
+use Rattle.concrete_machine.specs.declared.call.Called.{Called}
+use Rattle.concrete_machine.specs.declared.call.Called.TheVariants as calls
+
+-- what a call answers: the result and what is printed, with the state that it leaves
+abbrev pub Calls : Called → State → State → Effect Returned → Type 0
+Calls (calls.Returns result item) before after effect =
+    effect ≡ Done 0 (record { state = after; result = result; items = option_to_list item })
+Calls (calls.Traps trap) before after effect = (effect ≡ Traps trap) × (after ≡ before)
+Calls calls.Blocks before after effect = (effect ≡ Blocks) × (after ≡ before)
+
+-- how many items a call printed
+abbrev pub Prints : ℕ → Called → Type 0
+Prints count (calls.Returns result item) = length (option_to_list item) ≡ count
+Prints count (calls.Traps trap) = Unit {0}
+Prints count calls.Blocks = Unit {0}
+
+abbrev pub frames_of : Option Thread → List Frame
+frames_of None = []
+frames_of (Some thread) = thread.frames
+
+-- the threads that there were have their frames
+abbrev pub KeepsFrames : List Thread → List Thread → Type 0
+KeepsFrames before after =
+    (number : ℕ) → number < length before → frames_of (slice_get after number) ≡ frames_of (slice_get before number)
+
+-- the result of a thread that may be joined
+abbrev pub joinable : Option Thread → Option ℕ
+joinable None = None
+joinable (Some thread) = if thread.joined then None else Some (result_of (Some thread))
+
+-- the objects after a thread's result was stored, where a place for it is given
+abbrev pub stored : List Object → ℕ → ℕ → Result (List Object) Trap
+stored objects at number = if at == 0 then Ok objects else written objects at 8 number
+
+-- the trap that comes first
+abbrev pub trap_or : {A : Type 0} → Trap → Result A Trap → Trap
+trap_or later (Ok value) = later
+trap_or later (Err trap) = trap
+
+-- what a write that is only tried answers
+abbrev pub Refuses : {A : Type 0} → Option Trap → Result A Trap → Type 0
+Refuses None (Ok value) = Unit {0}
+Refuses None (Err trap) = ⊥
+Refuses (Some trap) tried = tried ≡ Err trap
+
+-- how many items a call prints
+abbrev pub items_of_call : Extern → ℕ
+items_of_call Putchar = 1
+items_of_call _ = 0

@@ -1,0 +1,11 @@
+pub mod Advance
+pub mod Call
+pub mod Code
+pub mod Effect
+pub mod Frame
+pub mod Machine
+pub mod Memory
+pub mod Operation
+pub mod ThreadEnd
+pub mod Turns
+pub mod Waiting

@@ -1,0 +1,39 @@
+-- What the code of the operations answers with which turns begin.
+use Rattle.std.specs.Prelude.{◌≡◌, ℕ, slice_get, Option, Some, None}
+use Rattle.ir_types.specs.declared.instruction.Inst.{Inst}
+use Rattle.ir_types.specs.declared.instruction.Inst.TheVariants.{External}
+use Rattle.machine_model.specs.declared.state.Frame.{Frame}
+use Rattle.machine_model.specs.declared.state.State.{State}
+use Rattle.machine_model.specs.declared.state.Thread.{Thread}
+use Rattle.machine_model.specs.Effect.{Effect}
+use Rattle.machine_model.specs.Effect.Effect.{Done, Exits, Traps, Blocks}
+use Rattle.machine_model.specs.Thread.{top}
+use Rattle.concrete_machine.specs.declared.operation.Action.{Action}
+use Rattle.concrete_machine.specs.declared.operation.Action.TheVariants as actions
+use Rattle.concrete_machine.specs.Call.{items_of_call}
+use Rattle.concrete_machine.specs.Frame.{HasRoom}
+
+-- what a visible instruction answers that costs so much beyond 1
+abbrev pub Acts : Action → ℕ → State → State → Effect State → Type 0
+Acts actions.Done more before after effect = effect ≡ Done more after
+Acts (actions.Exits status) more before after effect = effect ≡ Exits more status after
+Acts (actions.Traps trap) more before after effect = (effect ≡ Traps trap) × (after ≡ before)
+Acts actions.Blocks more before after effect = (effect ≡ Blocks) × (after ≡ before)
+
+-- how many items an instruction prints
+abbrev pub items_of : Inst → ℕ
+items_of (External to which arguments) = items_of_call which
+items_of _ = 0
+
+-- the thread has a frame that can go on
+abbrev pub CanGoOn : Option Thread → Type 0
+CanGoOn None = ⊥
+CanGoOn (Some thread) = HasRoom (top thread)
+
+-- the frame that runs of a thread by its number
+abbrev pub IsTopOf : Option Thread → Frame → Type 0
+IsTopOf None frame = ⊥
+IsTopOf (Some thread) frame = top thread ≡ Some frame
+
+abbrev pub IsTop : State → ℕ → Frame → Type 0
+IsTop state number frame = IsTopOf (slice_get state.threads number) frame

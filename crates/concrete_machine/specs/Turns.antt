@@ -1,0 +1,7 @@
+-- What the code of turns answers, and that of parts of one.
+use Rattle.std.specs.Prelude.{ℕ, List}
+use Rattle.machine_model.specs.declared.run.TurnEnd.{TurnEnd}
+use Rattle.machine_model.specs.Turn.{Turned}
+
+abbrev pub turned : {S : Type 0} → S → ℕ → List ℕ → TurnEnd → Turned S
+turned after left decided end = record { after = after; left = left; decided = decided; end = end }

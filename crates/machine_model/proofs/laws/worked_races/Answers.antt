@@ -1,0 +1,32 @@
+use Rattle.std.proofs.Common.{refl}
+use Rattle.machine_model.specs.Access.{pending_operation}
+use Rattle.machine_model.specs.Call.{is_blocked, call_of}
+use Rattle.machine_model.specs.Code.{next_in}
+use Rattle.machine_model.specs.Decision.{places_of, outcomes_of}
+use Rattle.machine_model.specs.Enabled.{enabled, is_enabled, waits, waits_for}
+use Rattle.machine_model.specs.Follow.{follow_turns}
+use Rattle.machine_model.specs.Hold.{held_from}
+use Rattle.machine_model.specs.Instruction.{effect_of}
+use Rattle.machine_model.specs.Job.{HeldOn, hold_point}
+use Rattle.machine_model.specs.Memory.{read, written, bytes_of}
+use Rattle.machine_model.specs.Moment.{moments_from, moments_of}
+use Rattle.machine_model.specs.Operation.{is_visible, visible_effect}
+use Rattle.machine_model.specs.Policy.{choose}
+use Rattle.machine_model.specs.Reach.{Reaches}
+use Rattle.machine_model.specs.Repeat.{power_within, repeats, same_policy, same_state}
+use Rattle.machine_model.specs.Run.{advanced}
+use Rattle.machine_model.specs.TestedRun.{tested_from, tested_run}
+use Rattle.machine_model.specs.Turn.{turn, ran, moved, charged, rest_of_turn, operated}
+use Rattle.machine_model.proofs.laws.worked_races.Goals as goal
+
+pub returns : goal.returns
+unfolding advanced turn ran moved charged rest_of_turn operated choose follow_turns enabled is_enabled waits waits_for is_visible visible_effect is_blocked call_of next_in places_of outcomes_of effect_of read written bytes_of pending_operation held_from HeldOn hold_point moments_from moments_of Reaches power_within repeats same_policy same_state tested_from tested_run
+returns c = record {
+  recorded = λ input. refl;
+  other = λ input. refl;
+  cut_early = λ input. refl;
+  cut_late = λ input. refl;
+  whole = λ input. refl;
+  stuck = λ input. refl;
+  ended = λ input. refl;
+}

@@ -1,6 +1,0 @@
-use Rattle.std.proofs.Common.{◌≡◌, map, take}
-use Rattle.machine_model.specs.Run.{object_of_global}
-use Rattle.race_top.proofs.concrete_machine.starts.make_objects.Given as goal
-
-abbrev pub invariant-loop-global : goal.invariant-loop-global
-invariant-loop-global l = l.objects.items ≡ map object_of_global (take l.global-index l.globals)

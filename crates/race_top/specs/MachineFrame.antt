@@ -1,7 +1,0 @@
--- What the concrete machine needs of the frame that runs.
-use Rattle.std.specs.Prelude.{◌+◌, ◌<◌, ◌^◌}
-use Rattle.machine_model.specs.declared.state.Frame.{Frame}
-
--- the place after the frame's is a number of 32 bits
-abbrev pub HasNext : Frame → Type 0
-HasNext frame = frame.place + 1 < 2 ^ 32

@@ -1,0 +1,103 @@
+//! A run so far, turn by turn.
+
+ghost use Rattle.std.specs.Prelude.{◌≡◌, IfOk};
+ghost use Rattle.machine_model.specs.Primary.{setting_of};
+ghost use Rattle.machine_model.specs.Run.{advanced, begun, told};
+ghost use Rattle.machine_model.specs.Runnable.{IsRunnable};
+ghost use Rattle.race_top.specs.Course.{GoesOn, IsOf, advance_of, course_of};
+
+use concrete_machine::Machine;
+use ir_types::{Input, Module};
+use machine_model::{Case, Outcome, Run, TurnEnd};
+use rc_base::{NoMemory, Steps};
+use std::alloc::Global;
+use std::sync::ledger::Ledger;
+use turn_policy::Policy;
+
+/// The machine, the chooser, the threads chosen and the steps that are left.
+#[derive(Drop)]
+pub struct Course {
+    pub machine: Machine,
+    pub policy: Policy,
+    pub turns: Vec<u8>,
+    pub left: u32,
+    /// The enabled threads of one moment; made once and used in each turn.
+    pub enabled: Vec<u32>,
+}
+
+/// What a turn leads to: the run goes on, or it is over.
+#[derive(Drop)]
+pub enum Advance {
+    Onward(Course),
+    Over(Course, Outcome),
+}
+
+impl Course {
+    /// The start of the run that follows the recorded turns on an input.
+    pub fn begin(
+        alloc: Global,
+        code: &Module,
+        case: &Case,
+        input: &Input,
+    ) -> Result<Course, NoMemory>
+        requires { IsRunnable code.now }
+        ensures course { IfOk result (λ course.
+            course_of course ≡ begun (setting_of code.now case.now input.now) case.now.steps) }
+        ensures of { IfOk result (IsOf code.now case.now) }
+    {
+        Ok(Course {
+            machine: Machine::start(alloc, code, input)?,
+            policy: Policy::follow(alloc, &case.turns)?,
+            turns: Vec::new(alloc),
+            left: case.steps,
+            enabled: Vec::new(alloc),
+        })
+    }
+
+    /// Takes one turn; where no thread may be chosen there is none.
+    #[tactic(auto, unfolding(machine_model::specs::Run::advanced))]
+    pub fn advance<L: Ledger>(
+        mut self,
+        code: &Module,
+        case: &Case,
+        input: &Input,
+        steps: &mut Steps<L>,
+    ) -> Result<Advance, NoMemory>
+        requires { IsOf code.now case.now self }
+        ensures course { IfOk result (λ next.
+            advanced (setting_of code.now case.now input.now) case.now.turns (course_of self) ≡ advance_of next) }
+        ensures of { IfOk result (GoesOn code.now case.now) }
+    {
+        self.machine.list_enabled(&mut self.enabled)?;
+        let Some(thread) = self.policy.choose(&self.enabled) else {
+            return Ok(Advance::Over(self, Outcome::Deadlock));
+        };
+        self.turns.push(thread as u8)?;
+        let mut left = self.left;
+        let (machine, end) =
+            self.machine
+                .turn(code, input, &case.watch.items, thread, &mut left, steps)?;
+        let course = Course {
+            machine,
+            policy: self.policy,
+            turns: self.turns,
+            left,
+            enabled: self.enabled,
+        };
+        Ok(match end {
+            TurnEnd::Going => Advance::Onward(course),
+            TurnEnd::Exit(status) => Advance::Over(course, Outcome::Exit { status }),
+            TurnEnd::Trap(trap, site) => {
+                Advance::Over(course, Outcome::Trap { trap, thread, site })
+            }
+            TurnEnd::Spent => Advance::Over(course, Outcome::Spent),
+        })
+    }
+
+    /// What a run leaves that ended like this.
+    pub fn tell(self, outcome: Outcome) -> Run
+        ensures { result ≡ told (course_of self) outcome }
+    {
+        self.machine.into_run(self.turns.into(), outcome)
+    }
+}

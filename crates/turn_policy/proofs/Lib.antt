@@ -1,0 +1,4 @@
+pub mod Choices
+pub mod Enabled
+pub mod Equality
+pub mod Turns
