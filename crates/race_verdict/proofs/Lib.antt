@@ -1,0 +1,9 @@
+mod Classes
+mod Conditions
+mod Distinct
+mod FirstAnswers
+mod Firsts
+mod HarmlessRuns
+mod JobOrder
+mod Members
+mod Order
