@@ -143,9 +143,10 @@ further laws go after setting listed course (Some choice) thread taken first com
     let moved = λ (rest : List ℕ). ap (λ thread. course.turns ++ thread ∷ rest) same ∙ sym (append_assoc course.turns (choice.thread ∷ []) rest) in
     by_end go after setting course (after_turn course choice turned) turned.end thread taken choice.thread first common taken_rest
     refl taken_is
-    (λ is. on (after_turn course choice turned)
-    (follows-next laws listed course.policy (enabled setting course.state) choice picked at.0,
-    omega (arith, picks.1, at.1, length-append course.turns (choice.thread ∷ [])))
+    (λ is. on (after_turn course choice turned) (
+      follows-next laws listed course.policy (enabled setting course.state) choice picked at.0,
+      omega (arith, picks.1, at.1, length-append course.turns (choice.thread ∷ [])),
+    )
     (listed_is ∙ moved (common ++ thread ∷ listed_rest)) (is ∙ moved (common ++ taken ∷ taken_rest)))
 
 walk : Chooser → (common : List ℕ) (most : ℕ) (setting : Setting) (listed : List ℕ) (thread taken : ℕ)

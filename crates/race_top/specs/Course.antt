@@ -1,10 +1,12 @@
 -- The run so far that the code keeps, in terms of the definitions.
-use Rattle.std.specs.Prelude.{◌≡◌}
+use Rattle.std.specs.Prelude.{◌≡◌, ℕ, Option, Some, None, Result, Ok, Err}
 use Rattle.ir_types.specs.declared.«module».Module.{Module}
 use Rattle.machine_model.specs.declared.case.Case.{Case}
+use Rattle.machine_model.specs.Policy.{Choice}
 use Rattle.machine_model.specs.Run.{Advance, Course}
 use Rattle.machine_model.specs.Run.Advance.{Onward, Over}
 use Rattle.concrete_machine.specs.Machine.{Runs}
+use Rattle.rc_base.specs.declared.failures.NoMemory.{NoMemory}
 use Rattle.race_top.specs.declared.course.Advance.{Advance as Answer}
 use Rattle.race_top.specs.declared.course.Advance.TheVariants as answers
 use Rattle.race_top.specs.declared.course.Course.{Course as Kept}
@@ -31,3 +33,19 @@ advance_of (answers.Over kept outcome) = Over (course_of kept) outcome
 abbrev pub GoesOn : Module → Case → Answer → Type 0
 GoesOn code case (answers.Onward kept) = IsOf code case kept
 GoesOn code case (answers.Over kept outcome) = Unit {0}
+
+-- the steps that are left
+abbrev pub left_in : Answer → ℕ
+left_in (answers.Onward kept) = kept.left
+left_in (answers.Over kept outcome) = kept.left
+
+-- a choice by which the chooser came to be as it is
+abbrev pub choice_of : ℕ → Course → Choice
+choice_of thread course = record { thread = thread; next = course.policy }
+
+-- the thread that is chosen, and the chooser after it; where there is none nothing changes
+abbrev pub ChoosesTurn : Result (Option ℕ) NoMemory → Course → Course → Option Choice → Type 0
+ChoosesTurn (Err refused) before after choice = Unit {0}
+ChoosesTurn (Ok None) before after choice = (choice ≡ None) × (after ≡ before)
+ChoosesTurn (Ok (Some thread)) before after choice =
+    (choice ≡ Some (choice_of thread after)) × (after ≡ record before { policy = after.policy })

@@ -36,6 +36,7 @@ const MOST_STEPS: u64 = 1 << 24;
 pub fn read_case(alloc: Global, text: &[u8]) -> Result<Case, CaseError>
     ensures value { Gives (λ case. case) result (case_of text.now) }
     ensures listed { IfOk result (λ case. length case.turns ≤ 20000) }
+    ensures steps { IfOk result (λ case. case.steps ≤ 200000) }
 {
     let rest = heading(text)?;
     let (fields, rest) = Fields::read(rest)?;

@@ -1,11 +1,17 @@
 //! A run so far, turn by turn.
 
-ghost use Rattle.std.specs.Prelude.{◌≡◌, IfOk};
+ghost use Rattle.std.specs.Prelude.{◌≡◌, ◌<◌, ◌≤◌, IfOk, IfSome, OnOk, Some, option_map};
+ghost use Rattle.machine_model.specs.Enabled.{enabled};
+ghost use Rattle.machine_model.specs.Moment.{access_at};
+ghost use Rattle.machine_model.specs.Policy.{choose};
 ghost use Rattle.machine_model.specs.Primary.{setting_of};
-ghost use Rattle.machine_model.specs.Run.{advanced, begun, told};
+ghost use Rattle.machine_model.specs.Run.{advanced, advanced_with, begun, told};
 ghost use Rattle.machine_model.specs.Runnable.{IsRunnable};
-ghost use Rattle.race_top.specs.Course.{GoesOn, IsOf, advance_of, course_of};
+ghost use Rattle.machine_model.specs.Setting.{Setting};
+ghost use Rattle.race_top.specs.Access.{seen_access};
+ghost use Rattle.race_top.specs.Course.{ChoosesTurn, GoesOn, IsOf, advance_of, choice_of, course_of, left_in};
 
+use crate::access::Access;
 use concrete_machine::Machine;
 use ir_types::{Input, Module};
 use machine_model::{Case, Outcome, Run, TurnEnd};
@@ -54,29 +60,52 @@ impl Course {
         })
     }
 
-    /// Takes one turn; where no thread may be chosen there is none.
-    #[tactic(auto, unfolding(machine_model::specs::Run::advanced))]
-    pub fn advance<L: Ledger>(
+    /// Chooses the thread of the next turn among the enabled ones. Where none may be chosen nothing changes.
+    pub fn choose(&mut self) -> Result<Option<u32>, NoMemory>
+        ensures chosen { OnOk result ((setting : Setting) (case : Case) → IsOf setting.code case self.old →
+            ChoosesTurn result (course_of self.old) (course_of self.new)
+            (choose case.turns (course_of self.old).policy (enabled setting self.old.machine.state))) }
+        ensures of { OnOk result ((code : Module) (case : Case) → IsOf code case self.old → IsOf code case self.new) }
+        ensures few { IfOk result (λ thread. (code : Module) (case : Case) → IsOf code case self.old → IfSome thread (λ t. t < 16)) }
+        ensures left { OnOk result (self.new.left ≡ self.old.left) }
+    {
+        self.machine.list_enabled(&mut self.enabled)?;
+        Ok(self.policy.choose(&self.enabled))
+    }
+
+    /// The access that a turn of a thread does, if it does one.
+    pub fn access(&self, thread: u32) -> Option<Access>
+        ensures { (setting : Setting) (case : Case) → IsOf setting.code case self.now →
+            option_map seen_access result ≡ access_at setting (record { before = course_of self.now; thread = thread }) }
+    {
+        if self.left == 0 {
+            return None;
+        }
+        Access::of(self.machine.pending(thread))
+    }
+
+    /// Takes a turn of the thread that was chosen.
+    pub fn take<L: Ledger>(
         mut self,
         code: &Module,
         case: &Case,
         input: &Input,
+        thread: u32,
         steps: &mut Steps<L>,
     ) -> Result<Advance, NoMemory>
-        requires { IsOf code.now case.now self }
+        requires of { IsOf code.now case.now self }
+        requires few { thread < 16 }
         ensures course { IfOk result (λ next.
-            advanced (setting_of code.now case.now input.now) case.now.turns (course_of self) ≡ advance_of next) }
+            advanced_with (setting_of code.now case.now input.now) (course_of self) (Some (choice_of thread (course_of self)))
+            ≡ advance_of next) }
         ensures of { IfOk result (GoesOn code.now case.now) }
+        ensures falls { IfOk result (λ next. left_in next ≤ self.left) }
     {
-        self.machine.list_enabled(&mut self.enabled)?;
-        let Some(thread) = self.policy.choose(&self.enabled) else {
-            return Ok(Advance::Over(self, Outcome::Deadlock));
-        };
         self.turns.push(thread as u8)?;
         let mut left = self.left;
-        let (machine, end) =
-            self.machine
-                .turn(code, input, &case.watch.items, thread, &mut left, steps)?;
+        let (machine, end) = self
+            .machine
+            .turn(code, input, &case.watch.items, thread, &mut left, steps)?;
         let course = Course {
             machine,
             policy: self.policy,
@@ -92,6 +121,28 @@ impl Course {
             }
             TurnEnd::Spent => Advance::Over(course, Outcome::Spent),
         })
+    }
+
+    /// Chooses and takes one turn; where no thread may be chosen there is none.
+    #[tactic(auto, unfolding(machine_model::specs::Run::advanced))]
+    pub fn advance<L: Ledger>(
+        mut self,
+        code: &Module,
+        case: &Case,
+        input: &Input,
+        steps: &mut Steps<L>,
+    ) -> Result<Advance, NoMemory>
+        requires { IsOf code.now case.now self }
+        ensures course { IfOk result (λ next.
+            advanced (setting_of code.now case.now input.now) case.now.turns (course_of self) ≡ advance_of next) }
+        ensures of { IfOk result (GoesOn code.now case.now) }
+        ensures falls { IfOk result (λ next. left_in next ≤ self.left) }
+    {
+        let Some(thread) = self.choose()? else {
+            return Ok(Advance::Over(self, Outcome::Deadlock));
+        };
+        let next = self.take(code, case, input, thread, steps)?;
+        Ok(next)
     }
 
     /// What a run leaves that ended like this.

@@ -1,8 +1,12 @@
 //! The recorded run: the primary of a case's input, and whether it takes the listed turns.
 //!
+//! - `check`: whether a pair of recorded turns is a race
+//! - `seen`: what the run does in two of its turns
 //! - `laws`: what holds of every recorded run
 
+mod check;
 pub mod laws;
+mod seen;
 
 ghost use Rattle.std.specs.Prelude.{◌≡◌, ◌<◌, ◌^◌, length, IfOk, IfSome};
 ghost use Rattle.machine_model.specs.Primary.{Primary};
@@ -10,6 +14,7 @@ ghost use Rattle.machine_model.specs.Runnable.{IsRunnable};
 ghost use Rattle.race_top.specs.TraceReplay.{Tells, fault_at_end, first_other, replay_fault};
 
 use crate::course::{Advance, Course};
+pub use check::{RaceError, check_race};
 use ir_types::{Input, Module};
 use machine_model::{Case, Outcome, Run};
 use rc_base::{NoMemory, Steps};

@@ -7,6 +7,9 @@ use super::error::CaseError;
 use super::number::number;
 use super::part::{line_at, operand};
 
+/// The greatest budget.
+pub const MOST_STEPS: u32 = 200_000;
+
 /// A line of a keyword and one number. They stand in this order.
 #[derive(Clone, Copy)]
 pub enum Field {
@@ -60,7 +63,7 @@ impl Field {
     {
         match self {
             Field::Seed => u64::MAX,
-            Field::Steps => 200_000,
+            Field::Steps => u64::from(MOST_STEPS),
             Field::Visits => 1024,
             Field::Paths | Field::Schedules => 1,
         }
@@ -100,7 +103,8 @@ impl Fields {
     /// Reads the lines at the front of the text, and gives what follows them.
     #[tactic(auto, unfolding(crate::specs::CaseText::fields_of))]
     pub fn read(text: &[u8]) -> Result<(Fields, &[u8]), CaseError>
-        ensures { Gives (λ found. (found.0, lines_of found.1.now)) result (fields_of (lines_of text.now)) }
+        ensures value { Gives (λ found. (found.0, lines_of found.1.now)) result (fields_of (lines_of text.now)) }
+        ensures steps { IfOk result (λ found. found.0.steps ≤ MOST_STEPS) }
     {
         let (seed, rest) = Field::Seed.read(text)?;
         let (steps, rest) = Field::Steps.read(rest)?;

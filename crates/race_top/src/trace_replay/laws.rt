@@ -1,5 +1,6 @@
 //! Laws of the recorded run. No function here does anything; each one's contract is a theorem.
 
+ghost use Rattle.race_top.specs.CheckRaceLaws.{RecordedRunReaches, ThreadsDiffer};
 ghost use Rattle.race_top.specs.ReplayLaws.{ListedAreTaken, RefusedIsNotEnabled, RunTakesItsTurns, TurnsGiveTheRun};
 
 use machine_model::laws::chooser_follows_the_list;
@@ -23,3 +24,9 @@ pub fn refused_is_not_enabled()
 {
     chooser_follows_the_list();
 }
+
+/// A race of two recorded turns is one of two threads, and the recorded run reaches it.
+pub fn recorded_run_reaches()
+    ensures reaches { RecordedRunReaches }
+    ensures threads { ThreadsDiffer }
+{}

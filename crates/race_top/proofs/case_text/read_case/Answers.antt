@@ -6,5 +6,5 @@ use Rattle.race_top.proofs.case_text.read_case.Goals as goal
 pub returns-clause-value : goal.returns-clause-value
 unfolding case_of
 returns-clause-value c =
-    rw (c.in_ok-rest.ensures, c.in_ok-fields.ensures, c.in_ok-body.ensures.value, c.in_ok-ending.ensures)
+    rw (c.in_ok-rest.ensures, c.in_ok-fields.ensures.value, c.in_ok-body.ensures.value, c.in_ok-ending.ensures)
     (ap Ok (case_made c.in_ok-fields.fields c.in_ok-body.body.turns.items _ c.new-2.result c.new-3.result c.new.ensures c.new-2.ensures c.new-3.ensures))

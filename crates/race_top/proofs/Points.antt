@@ -1,0 +1,80 @@
+-- The search for the hold point of a race among the moments of a run.
+use Rattle.std.proofs.Common.{◌≡◌, ℕ, ◌+◌, ◌-◌, List, [], ◌∷◌, ◌++◌, drop, length, take, Option, Some, None, sym, ap, ◌∙◌, arith, length-drop}
+use Rattle.std.proofs.lemmas.List.{map_push}
+use Rattle.ir_types.specs.declared.input.Input.{Input}
+use Rattle.ir_types.specs.declared.«module».Module.{Module}
+use Rattle.machine_model.specs.declared.case.Case.{Case}
+use Rattle.machine_model.specs.declared.race.Race.{Race}
+use Rattle.machine_model.specs.Job.{hold_point, point_at, point_in, snapshots}
+use Rattle.machine_model.specs.Moment.{Moment, access_at, from_turn}
+use Rattle.machine_model.specs.Policy.{Choice, Policy, choose}
+use Rattle.machine_model.specs.Primary.{setting_of}
+use Rattle.machine_model.specs.Reach.{from_first, primary_moments}
+use Rattle.machine_model.specs.Repeat.{Snapshot, snapshot}
+use Rattle.turn_policy.specs.Policy.{Listed}
+use Rattle.race_top.specs.declared.order_enforcer.past.Past.{Past}
+use Rattle.race_top.specs.Past.{Recalls}
+use Rattle.race_top.proofs.Moments.{take-next}
+
+-- where no moment from the race's first access on is left, there is none
+pub point-none : (code : Module) (case : Case) (race : Race) (input : Input) (number : ℕ) (left : List Moment) →
+    left ≡ [] → from_turn race.t1 number left ≡ from_first race (primary_moments code case input) →
+    hold_point code case race input ≡ None
+unfolding hold_point
+point-none code case race input number left none from =
+    let end : from_first race (primary_moments code case input) ≡ [] =
+    sym from ∙ ap (from_turn race.t1 number) none in
+    ap (point_in (setting_of code case input) (primary_moments code case input)) end
+
+-- the snapshots of one moment more
+pub snapshots-next : (moments : List Moment) (i : ℕ) (moment : Moment) (rest : List Moment) →
+    drop i moments ≡ moment ∷ rest →
+    snapshots (take (i + 1) moments) ≡ snapshots (take i moments) ++ snapshot moment.before ∷ []
+snapshots-next moments i moment rest is =
+    ap snapshots (take-next moments i moment rest is)
+    ∙ map_push (λ one. snapshot one.before) (take i moments) moment
+
+-- where the next moment is the race's, its course is the hold point's
+pub point-here : (code : Module) (case : Case) (race : Race) (input : Input) (i : ℕ) (moment : Moment) (rest : List Moment) →
+    drop i (primary_moments code case input) ≡ moment ∷ rest →
+    moment ∷ rest ≡ from_first race (primary_moments code case input) →
+    hold_point code case race input
+    ≡ point_at (snapshots (take i (primary_moments code case input)) ++ snapshot moment.before ∷ []) moment
+    (access_at (setting_of code case input) moment)
+unfolding hold_point
+point-here code case race input i moment rest is from =
+    let moments = primary_moments code case input in
+    let setting = setting_of code case input in
+    let count : length moments - length rest ≡ i + 1 = omega (arith, length-drop i moments, ap length is) in
+    ap (point_in setting moments) (sym from)
+    ∙ ap (λ number. point_at (snapshots (take number moments)) moment (access_at setting moment)) count
+    ∙ ap (λ past. point_at past moment (access_at setting moment)) (snapshots-next moments i moment rest is)
+
+-- an equal chooser chooses as the course's own
+pub choose-alike : (ahead own : Listed) (listed threads : List ℕ) (chosen : Option Choice) → ahead ≡ own →
+    own.listed ≡ listed → choose ahead.listed ahead.policy threads ≡ chosen → choose listed own.policy threads ≡ chosen
+choose-alike ahead own listed threads chosen same is chose =
+    ap (λ turns. choose turns own.policy threads) (sym is)
+    ∙ ap (λ one. choose one.listed one.policy threads) (sym same) ∙ chose
+
+-- where the course's own has made the same choice, they are equal again
+pub equal-choosers : (ahead own : Listed) (listed : List ℕ) (chosen : Option Choice) (one : Choice) (thread : ℕ) →
+    chosen ≡ Some one → chosen ≡ Some (record { thread = thread; next = ahead.policy }) → own.policy ≡ one.next →
+    ahead.listed ≡ listed → own.listed ≡ listed → ahead ≡ own
+equal-choosers ahead own listed chosen one thread is other policy ahead_listed own_listed =
+    let same : one ≡ record { thread = thread; next = ahead.policy } = cc in
+    let policies : ahead.policy ≡ own.policy = sym (policy ∙ ap (λ choice. choice.next) same) in
+    let lists : ahead.listed ≡ own.listed = ahead_listed ∙ sym own_listed in
+    ap (λ turns. record ahead { listed = turns }) lists ∙ ap (λ chooser. record own { policy = chooser }) policies
+
+-- the same choice, and so the same thread
+pub same-thread : (chosen : Option Choice) (one : Choice) (thread : ℕ) (next : Policy) → chosen ≡ Some one →
+    chosen ≡ Some (record { thread = thread; next = next }) → one.thread ≡ thread
+same-thread chosen one thread next is other =
+    let same : one ≡ record { thread = thread; next = next } = cc in ap (λ choice. choice.thread) same
+
+pub Recalls-next : (moments : List Moment) (i : ℕ) (moment : Moment) (rest : List Moment) (now : Snapshot) (past : Past) →
+    drop i moments ≡ moment ∷ rest →
+    Recalls ((snapshots (take i moments) ++ snapshot moment.before ∷ []) ++ now ∷ []) past →
+    Recalls (snapshots (take (i + 1) moments) ++ now ∷ []) past
+Recalls-next moments i moment rest now past is recalls = rw (snapshots-next moments i moment rest is) recalls

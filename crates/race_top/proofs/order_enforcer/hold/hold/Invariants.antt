@@ -1,0 +1,23 @@
+use Rattle.std.proofs.Common.{◌≡◌, ◌+◌, ◌-◌, ◌≤◌, List}
+use Rattle.machine_model.specs.Hold.{held_from}
+use Rattle.machine_model.specs.Primary.{setting_of}
+use Rattle.machine_model.specs.Repeat.{Snapshot}
+use Rattle.race_top.specs.declared.order_enforcer.hold.HoldAdvance.TheVariants.{Onward}
+use Rattle.race_top.specs.Access.{seen_access}
+use Rattle.race_top.specs.Course.{IsOf, course_of}
+use Rattle.race_top.specs.HoldTurn.{LeadsTo}
+use Rattle.race_top.specs.Past.{Recalls}
+use Rattle.race_top.proofs.order_enforcer.hold.hold.Given as goal
+
+abbrev pub invariant-loop : goal.invariant-loop
+invariant-loop g l = record {
+  count : l.most ≡ l.fn.course.left + 1;
+  turned : l.past.turns ≤ l.fn.past.turns + l.counter;
+  left : l.course.left ≤ l.fn.course.left;
+  of : IsOf l.code l.case l.course;
+  same : (snapshots : List Snapshot) → Recalls snapshots l.fn.past →
+      LeadsTo (held_from (l.most - l.counter) (setting_of l.code l.case l.input) l.case.turns l.race (seen_access l.first))
+      (Onward l.course l.past)
+      (held_from (l.fn.course.left + 1) (setting_of l.code l.case l.input) l.case.turns l.race (seen_access l.first)
+      snapshots (course_of l.fn.course));
+}

@@ -1,0 +1,72 @@
+-- The race of two recorded turns, or why they are none. The turns are numbered from 1.
+use Rattle.std.specs.Prelude.{◌≡◌, ℕ, ◌-◌, Bool, ◌&&◌, ◌==◌, nat_lt, nat_le, List, filter, length, take, slice_get, Option, Some, None, Result, Ok, Err, if◌then◌else◌}
+use Rattle.ir_types.specs.declared.«module».Module.{Module}
+use Rattle.machine_model.specs.declared.case.Case.{Case}
+use Rattle.machine_model.specs.declared.race.Race.{Race}
+use Rattle.machine_model.specs.Access.{Access}
+use Rattle.machine_model.specs.Moment.{Moment, access_at}
+use Rattle.machine_model.specs.Primary.{setting_of}
+use Rattle.machine_model.specs.Reach.{primary_moments}
+use Rattle.machine_model.specs.Setting.{Setting}
+use Rattle.race_top.specs.declared.trace_replay.check.RaceError.{RaceError}
+use Rattle.race_top.specs.declared.trace_replay.check.RaceError.TheVariants as errors
+use Rattle.race_top.specs.Access.{conflicts}
+
+pub data RaceFault : Type 0 where
+  Range : RaceFault
+  SameThread : RaceFault
+  NotWatched : RaceFault
+  NoConflict : RaceFault
+
+-- two recorded turns of so many, the second after the first
+abbrev pub is_range : ℕ → ℕ → ℕ → Bool
+is_range first second count = nat_lt 0 first && nat_lt first second && nat_le second count
+
+-- how many of these turns are a thread's
+abbrev pub turns_of : ℕ → List Moment → ℕ
+turns_of thread moments = length (filter (λ moment. moment.thread == thread) moments)
+
+abbrev pub race_by : List Moment → ℕ → ℕ → Moment → Moment → Access → Access → Result Race RaceFault
+race_by early first second one other access again =
+    if conflicts access again then Ok (record {
+      first = first;
+      second = second;
+      t1 = one.thread;
+      v1 = turns_of one.thread early;
+      s1 = access.site;
+      t2 = other.thread;
+      s2 = again.site;
+    })
+    else Err NoConflict
+
+abbrev pub race_with : List Moment → ℕ → ℕ → Moment → Moment → Option Access → Option Access → Result Race RaceFault
+race_with early first second one other (Some access) (Some again) =
+    race_by early first second one other access again
+race_with early first second one other (Some access) None = Err NotWatched
+race_with early first second one other None again = Err NotWatched
+
+-- of two turns of the run; a turn that the run does not have does no access
+abbrev pub race_at : Setting → List Moment → ℕ → ℕ → Option Moment → Option Moment → Result Race RaceFault
+race_at setting moments first second (Some one) (Some other) =
+    if one.thread == other.thread then Err SameThread
+    else race_with (take first moments) first second one other (access_at setting one) (access_at setting other)
+race_at setting moments first second (Some one) None = Err NotWatched
+race_at setting moments first second None other = Err NotWatched
+
+-- the race of a pair of recorded turns: they are two threads', each does an access, and the accesses conflict
+unfoldable pub RaceOf : Module → Case → ℕ × ℕ → Result Race RaceFault
+RaceOf code case pair =
+    let moments = primary_moments code case case.input in
+    if is_range pair.0 pair.1 (length case.turns)
+    then race_at (setting_of code case case.input) moments pair.0 pair.1
+    (slice_get moments (pair.0 - 1)) (slice_get moments (pair.1 - 1))
+    else Err Range
+
+-- an answer tells the race, or the fault
+abbrev pub TellsRace : Result Race RaceError → Result Race RaceFault → Type 0
+TellsRace (Ok race) found = found ≡ Ok race
+TellsRace (Err errors.Range) found = found ≡ Err Range
+TellsRace (Err errors.SameThread) found = found ≡ Err SameThread
+TellsRace (Err errors.NotWatched) found = found ≡ Err NotWatched
+TellsRace (Err errors.NoConflict) found = found ≡ Err NoConflict
+TellsRace (Err errors.NoMemory) found = Unit {0}

@@ -1,0 +1,43 @@
+-- What the code of the hold and of the jobs answers, in terms of their definitions.
+use Rattle.std.specs.Prelude.{◌≡◌, ℕ, ◌≤◌, List, Option, Some, None}
+use Rattle.ir_types.specs.declared.«module».Module.{Module}
+use Rattle.machine_model.specs.declared.case.Case.{Case}
+use Rattle.machine_model.specs.Hold.{Held}
+use Rattle.machine_model.specs.Hold.Held.{Done, NotEnforced, Ran}
+use Rattle.machine_model.specs.Job.{Alternate, HoldPoint}
+use Rattle.machine_model.specs.Job.Alternate.{Runs, Not, Absent}
+use Rattle.machine_model.specs.Repeat.{Snapshot}
+use Rattle.race_top.specs.declared.order_enforcer.hold.Enforced.{Enforced}
+use Rattle.race_top.specs.declared.order_enforcer.hold.Enforced.TheVariants as answers
+use Rattle.race_top.specs.declared.order_enforcer.job.Alternate.{Alternate as Answer}
+use Rattle.race_top.specs.declared.order_enforcer.job.Alternate.TheVariants as alternates
+use Rattle.race_top.specs.declared.order_enforcer.point.Point.{Point}
+use Rattle.race_top.specs.Access.{seen_access}
+use Rattle.race_top.specs.Course.{IsOf, course_of}
+use Rattle.race_top.specs.Past.{Recalls}
+
+-- the hold point was found, with what the repeat test compares with there
+abbrev pub FindsPoint : Option Point → Option HoldPoint → Type 0
+FindsPoint None point = point ≡ None
+FindsPoint (Some found) point =
+    (snapshots : List Snapshot) × Recalls snapshots found.past
+    × (point ≡ Some (record { past = snapshots; course = course_of found.course; first = seen_access found.first }))
+
+-- how the hold ends
+abbrev pub Enforces : Enforced → Held → Type 0
+Enforces (answers.Ready course past) held =
+    (snapshots : List Snapshot) × Recalls snapshots past × (held ≡ Done snapshots (course_of course))
+Enforces (answers.Not reason turns) held = held ≡ NotEnforced reason turns
+Enforces (answers.Ended run) held = held ≡ Ran run
+
+-- where it is done, the run goes on with no more steps and at most so many turns
+abbrev pub IsReady : Module → Case → ℕ → ℕ → Enforced → Type 0
+IsReady code case left turns (answers.Ready course past) =
+    IsOf code case course × (course.left ≤ left) × (past.turns ≤ turns)
+IsReady code case left turns (answers.Not reason taken) = Unit {0}
+IsReady code case left turns (answers.Ended run) = Unit {0}
+
+abbrev pub alternate_of : Answer → Alternate
+alternate_of (alternates.Ran run) = Runs run
+alternate_of (alternates.Not reason turns) = Not reason turns
+alternate_of alternates.Absent = Absent

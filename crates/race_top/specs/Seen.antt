@@ -1,0 +1,72 @@
+-- What the code sees of two turns of the recorded run, in terms of the run's moments.
+use Rattle.std.specs.Prelude.{◌≡◌, ℕ, ◌-◌, ◌<◌, List, [], ◌∷◌, map, option_map, slice_get, take, Option, Some, None}
+use Rattle.ir_types.specs.declared.«module».Module.{Module}
+use Rattle.machine_model.specs.declared.case.Case.{Case}
+use Rattle.machine_model.specs.Moment.{Moment, access_at, moments_from, onward_or_none}
+use Rattle.machine_model.specs.Policy.{Policy}
+use Rattle.machine_model.specs.Primary.{setting_of}
+use Rattle.machine_model.specs.Run.{Course, advanced_with}
+use Rattle.machine_model.specs.Setting.{Setting}
+use Rattle.race_top.specs.declared.course.Course.{Course as Kept}
+use Rattle.race_top.specs.declared.trace_replay.seen.Due.{Due}
+use Rattle.race_top.specs.declared.trace_replay.seen.Pair.{Pair}
+use Rattle.race_top.specs.declared.trace_replay.seen.Seen.{Seen}
+use Rattle.race_top.specs.Access.{seen_access}
+use Rattle.race_top.specs.CheckRace.{turns_of}
+use Rattle.race_top.specs.Course.{IsOf, choice_of, course_of}
+
+-- the moments of the recorded run from a course on, at most so many
+abbrev pub recorded_from : Module → Case → ℕ → Course → List Moment
+recorded_from code case most course = moments_from most (setting_of code case case.input) case.turns course
+
+abbrev pub threads_of : List Moment → List ℕ
+threads_of moments = map (λ moment. moment.thread) moments
+
+-- the moments that are left, at most so many, are those from a course on; where there is none, no moment is left
+abbrev pub IsLeft : Module → Case → ℕ → Option Kept → List Moment → Type 0
+IsLeft code case most None left = left ≡ []
+IsLeft code case most (Some kept) left = left ≡ recorded_from code case most (course_of kept)
+
+-- the moment of the turn that is due, where this is the chooser that chose it
+abbrev pub moment_due : Policy → Due → Moment
+moment_due policy due =
+    record { before = record (course_of due.course) { policy = policy }; thread = due.thread }
+
+-- the moments after it, at most so many
+abbrev pub after_due : Module → Case → ℕ → Due → List Moment
+after_due code case most due =
+    onward_or_none (recorded_from code case most)
+    (advanced_with (setting_of code case case.input) (course_of due.course)
+    (Some (choice_of due.thread (course_of due.course))))
+
+-- of the moments that are left the first is that of the turn that is due, and at most so many follow it; where
+-- there is none, no moment is left
+abbrev pub IsDue : Module → Case → ℕ → Option Due → List Moment → Type 0
+IsDue code case most None left = left ≡ []
+IsDue code case most (Some due) left =
+    (policy : Policy) × (left ≡ moment_due policy due ∷ after_due code case most due)
+
+-- one of the case's threads is to take it
+pub record MayTake (code : Module) (case : Case) (due : Due) : Type 0 where
+  pub of : IsOf code case due.course
+  pub few : due.thread < 16
+
+-- what is seen of a turn is so
+pub record IsSeen (setting : Setting) (moment : Moment) (seen : Seen) : Type 0 where
+  pub thread : moment.thread ≡ seen.thread
+  pub access : access_at setting moment ≡ option_map seen_access seen.access
+
+-- what is seen of the two turns of these numbers, counted from 1, is so
+pub record IsPair (setting : Setting) (moments : List Moment) (first second : ℕ) (pair : Pair) : Type 0 where
+  pub one : Moment
+  pub other : Moment
+  pub is_one : slice_get moments (first - 1) ≡ Some one
+  pub is_other : slice_get moments (second - 1) ≡ Some other
+  pub sees_one : IsSeen setting one pair.one
+  pub sees_other : IsSeen setting other pair.other
+  pub count : turns_of one.thread (take first moments) ≡ pair.count
+
+-- where there is none the run has no second turn
+abbrev pub SeesPair : Setting → List Moment → ℕ → ℕ → Option Pair → Type 0
+SeesPair setting moments first second None = slice_get moments (second - 1) ≡ None
+SeesPair setting moments first second (Some pair) = IsPair setting moments first second pair

@@ -1,0 +1,62 @@
+//! Accesses of memory that are turns of their own.
+
+ghost use Rattle.std.specs.Prelude.{◌≡◌, option_map};
+ghost use Rattle.machine_model.specs.Access.{access_of, is_site, overlaps};
+ghost use Rattle.race_top.specs.Access.{conflicts, seen_access};
+
+use ir_types::Site;
+use machine_model::Pending;
+
+/// A load or store at a watched site: of `len` bytes from the address `at` on.
+#[derive(Clone, Copy, Debug, PartialEq, Eq)]
+pub struct Access {
+    pub site: Site,
+    pub at: u64,
+    pub len: u32,
+    pub store: bool,
+}
+
+impl Access {
+    /// The access that is pending, if it is one.
+    pub fn of(pending: Pending) -> Option<Access>
+        ensures { option_map seen_access result ≡ access_of pending }
+    {
+        match pending {
+            Pending::Access {
+                site,
+                at,
+                len,
+                store,
+            } => Some(Access {
+                site,
+                at,
+                len,
+                store,
+            }),
+            _ => None,
+        }
+    }
+
+    /// Whether the access is done at this site.
+    pub fn is_at(&self, site: Site) -> bool
+        ensures { result ≡ is_site self.now.site site }
+    {
+        self.site.function == site.function && self.site.inst == site.inst
+    }
+
+    /// Whether the ranges have a byte in common.
+    pub fn overlaps(&self, other: &Access) -> bool
+        ensures { result ≡ overlaps (seen_access self.now) (seen_access other.now) }
+    {
+        let end = u128::from(self.at) + u128::from(self.len);
+        let other_end = u128::from(other.at) + u128::from(other.len);
+        u128::from(self.at) < other_end && u128::from(other.at) < end
+    }
+
+    /// Whether the accesses conflict: they have a byte in common, and one of them is a store.
+    pub fn conflicts(&self, other: &Access) -> bool
+        ensures { result ≡ conflicts (seen_access self.now) (seen_access other.now) }
+    {
+        self.overlaps(other) && (self.store || other.store)
+    }
+}

@@ -1,0 +1,143 @@
+//! The primary of an input and its alternate as jobs.
+
+ghost use Rattle.std.specs.Prelude.{◌≡◌, ◌+◌, ◌*◌, ◌<◌, ◌^◌, IfOk, Some, true};
+ghost use Rattle.machine_model.specs.Hold.{Held};
+ghost use Rattle.machine_model.specs.Job.{AlternateJob, PrimaryJob, alternate_after};
+ghost use Rattle.machine_model.specs.Primary.{setting_of};
+ghost use Rattle.machine_model.specs.Reach.{Reaches};
+ghost use Rattle.machine_model.specs.Runnable.{IsRunnable};
+ghost use Rattle.race_top.specs.OrderEnforcer.{Enforces, IsReady, alternate_of};
+
+use crate::course::Course;
+use crate::order_enforcer::hold::{Enforced, hold};
+use crate::order_enforcer::past::Past;
+use crate::order_enforcer::point::{Point, find_point};
+use crate::order_enforcer::tested::run_tested;
+use ir_types::{Input, Module};
+use machine_model::{Case, Race, Reason, Run, Turns};
+use rc_base::{NoMemory, Steps};
+use std::alloc::Global;
+use std::marker::Brand;
+use std::sync::ledger::{Blank, Ledger};
+
+/// An alternate, or why there is none.
+#[derive(Drop)]
+pub enum Alternate {
+    Ran(Run),
+    /// The order can't be enforced; these turns were taken.
+    Not { reason: Reason, turns: Turns },
+    /// The primary of the input doesn't reach the race.
+    Absent,
+}
+
+/// The primary of an input, with the repeat test after each turn and its steps counted.
+#[tactic(auto, unfolding(machine_model::specs::TestedRun::tested_run))]
+fn primary_counted<L: Ledger>(
+    alloc: Global,
+    code: &Module,
+    case: &Case,
+    input: &Input,
+    blank: Blank,
+) -> Result<Run, NoMemory>
+    requires runnable { IsRunnable code.now }
+    requires budget { case.now.steps < 2 ^ 30 }
+    requires name { blank.name ≡ L.name }
+    requires parts { blank.parts ≡ L.parts }
+    requires some { 0 < blank.parts }
+    ensures { IfOk result (λ run. run ≡ PrimaryJob code.now case.now input.now) }
+{
+    let mut steps = Steps::<L>::new(blank);
+    let course = Course::begin(alloc, code, case, input)?;
+    let past = Past::begin(&course)?;
+    run_tested(course, past, code, case, input, &mut steps)
+}
+
+/// The primary of an input, with the repeat test after each turn.
+pub fn primary_job(
+    alloc: Global,
+    code: &Module,
+    case: &Case,
+    input: &Input,
+) -> Result<Run, NoMemory>
+    requires runnable { IsRunnable code.now }
+    requires steps { case.now.steps < 2 ^ 30 }
+    ensures { IfOk result (λ run. run ≡ PrimaryJob code.now case.now input.now) }
+{
+    primary_counted::<Brand>(alloc, code, case, input, Blank::new(1))
+}
+
+/// The alternate after its hold: one turn of the thread that was held, and the recorded turns again.
+fn after_hold<L: Ledger>(
+    enforced: Enforced,
+    code: &Module,
+    case: &Case,
+    race: &Race,
+    input: &Input,
+    steps: &mut Steps<L>,
+) -> Result<Alternate, NoMemory>
+    requires steps { case.now.steps < 2 ^ 30 }
+    requires ready { IsReady code.now case.now case.now.steps (2 * case.now.steps + 2) enforced }
+    ensures { IfOk result (λ alternate. (held : Held) → Enforces enforced held →
+        alternate_of alternate
+        ≡ alternate_after (setting_of code.now case.now input.now) case.now.turns race.now (Some held)) }
+{
+    match enforced {
+        Enforced::Ready { mut course, past } => {
+            course.policy.after(race.t1);
+            let run = run_tested(course, past, code, case, input, steps)?;
+            Ok(Alternate::Ran(run))
+        }
+        Enforced::Not { reason, turns } => Ok(Alternate::Not { reason, turns }),
+        Enforced::Ended(run) => Ok(Alternate::Ran(run)),
+    }
+}
+
+/// The alternate of an input, its steps counted.
+#[tactic(auto, unfolding(machine_model::specs::Job::HeldOn))]
+fn alternate_counted<L: Ledger>(
+    alloc: Global,
+    code: &Module,
+    case: &Case,
+    race: &Race,
+    input: &Input,
+    blank: Blank,
+) -> Result<Alternate, NoMemory>
+    requires runnable { IsRunnable code.now }
+    requires steps { case.now.steps < 2 ^ 30 }
+    requires reached { Reaches code.now case.now race.now input.now ≡ true }
+    requires name { blank.name ≡ L.name }
+    requires parts { blank.parts ≡ L.parts }
+    requires some { 0 < blank.parts }
+    ensures { IfOk result (λ alternate. alternate_of alternate ≡ AlternateJob code.now case.now race.now input.now) }
+{
+    let mut steps = Steps::<L>::new(blank);
+    let Some(point) = find_point(alloc, code, case, race, input, &mut steps)? else {
+        return Ok(Alternate::Absent);
+    };
+    let Point {
+        mut course,
+        past,
+        first,
+    } = point;
+    course.policy.hold(race.t1);
+    let enforced = hold(course, past, first, code, case, race, input, &mut steps)?;
+    let alternate = after_hold(enforced, code, case, race, input, &mut steps)?;
+    Ok(alternate)
+}
+
+/// The alternate of an input whose primary reaches the race: the hold, one turn of the thread that was held, and
+/// the recorded turns again.
+pub fn alternate_job(
+    alloc: Global,
+    code: &Module,
+    case: &Case,
+    race: &Race,
+    input: &Input,
+) -> Result<Alternate, NoMemory>
+    requires runnable { IsRunnable code.now }
+    requires steps { case.now.steps < 2 ^ 30 }
+    requires reached { Reaches code.now case.now race.now input.now ≡ true }
+    ensures { IfOk result (λ alternate. alternate_of alternate ≡ AlternateJob code.now case.now race.now input.now) }
+{
+    alternate_counted::<Brand>(alloc, code, case, race, input, Blank::new(1))
+}

@@ -1,0 +1,123 @@
+//! The run of an input up to the hold point of a race.
+
+ghost use Rattle.std.specs.Prelude.{◌≡◌, ◌∷◌, ◌+◌, ◌<◌, ◌≤◌, ◌^◌, IfOk, IfSome, List, MatchOption};
+ghost use Rattle.concrete_machine.specs.Machine.{Runs};
+ghost use Rattle.machine_model.specs.Enabled.{enabled};
+ghost use Rattle.machine_model.specs.Job.{hold_point, point_at};
+ghost use Rattle.machine_model.specs.Moment.{Moment, access_at, from_turn};
+ghost use Rattle.machine_model.specs.Policy.{choose};
+ghost use Rattle.machine_model.specs.Repeat.{Snapshot};
+ghost use Rattle.machine_model.specs.Runnable.{IsRunnable};
+ghost use Rattle.machine_model.specs.Setting.{Setting};
+ghost use Rattle.turn_policy.specs.Policy.{Chooses};
+ghost use Rattle.race_top.specs.Course.{IsOf, course_of};
+ghost use Rattle.race_top.specs.OrderEnforcer.{FindsPoint};
+ghost use Rattle.race_top.specs.Past.{Recalls};
+
+use crate::access::Access;
+use crate::course::{Advance, Course};
+use crate::order_enforcer::past::Past;
+use ir_types::{Input, Module};
+use machine_model::{Case, Race};
+use rc_base::{NoMemory, Steps};
+use std::alloc::Global;
+use std::sync::ledger::Ledger;
+use turn_policy::Policy;
+
+/// The moment before a race's first access, which is pending.
+#[derive(Drop)]
+pub struct Point {
+    pub course: Course,
+    pub past: Past,
+    pub first: Access,
+}
+
+/// Chooses the thread of the next turn by a chooser beside the course's own, which stays as it is.
+fn look_ahead(
+    course: &Course,
+    ahead: &mut Policy,
+    threads: &mut Vec<u32>,
+) -> Result<Option<u32>, NoMemory>
+    ensures { IfOk result (λ thread. (setting : Setting) → Runs setting.code course.now.machine →
+        Chooses thread ahead.old ahead.new
+        (choose ahead.old.listed ahead.old.policy (enabled setting course.now.machine.state))) }
+{
+    course.machine.list_enabled(threads)?;
+    Ok(ahead.choose(threads))
+}
+
+/// The race's first access is done in the turn of this number among those of its thread that are left. What the
+/// number is after a turn of `thread`; `None` where that turn is the one.
+fn number_after(number: u32, thread: u32, race: &Race) -> Option<u32>
+    ensures { (moment : Moment) (later : List Moment) → moment.thread ≡ thread →
+        MatchOption result (from_turn race.now.t1 number (moment ∷ later) ≡ moment ∷ later)
+        (λ rest. from_turn race.now.t1 number (moment ∷ later) ≡ from_turn race.now.t1 rest later) }
+{
+    if thread != race.t1 {
+        return Some(number);
+    }
+    if number == 1 {
+        return None;
+    }
+    Some(number.saturating_sub(1))
+}
+
+/// The hold point before a turn of this thread, if the turn does an access.
+fn point_of(course: Course, past: Past, thread: u32) -> Option<Point>
+    ensures point { (setting : Setting) (case : Case) (snapshots : List Snapshot) →
+        IsOf setting.code case course → Recalls snapshots past →
+        let moment : Moment = record { before = course_of course; thread = thread } in
+        FindsPoint result (point_at snapshots moment (access_at setting moment)) }
+    ensures course { IfSome result (λ point. point.course ≡ course) }
+    ensures past { IfSome result (λ point. point.past ≡ past) }
+{
+    let Some(first) = course.access(thread) else {
+        return None;
+    };
+    Some(Point {
+        course,
+        past,
+        first,
+    })
+}
+
+/// Runs the primary of an input up to the hold point of a race.
+pub fn find_point<L: Ledger>(
+    alloc: Global,
+    code: &Module,
+    case: &Case,
+    race: &Race,
+    input: &Input,
+    steps: &mut Steps<L>,
+) -> Result<Option<Point>, NoMemory>
+    requires runnable { IsRunnable code.now }
+    requires steps { case.now.steps < 2 ^ 30 }
+    ensures point { IfOk result (λ found. FindsPoint found (hold_point code.now case.now race.now input.now)) }
+    ensures of { IfOk result (λ found. IfSome found (λ point. IsOf code.now case.now point.course)) }
+    ensures left { IfOk result (λ found. IfSome found (λ point. point.course.left ≤ case.now.steps)) }
+    ensures turns { IfOk result (λ found. IfSome found (λ point. point.past.turns ≤ case.now.steps + 1)) }
+{
+    let mut course = Course::begin(alloc, code, case, input)?;
+    let mut past = Past::begin(&course)?;
+    // It chooses first, so that the course is still as it was before the choice.
+    let mut ahead = course.policy.fork()?;
+    let mut threads = Vec::new(alloc);
+    let mut number = race.v1;
+    // Each turn costs at least 1, or is cut.
+    let most = u64::from(case.steps) + 1;
+    for _ in 0..most {
+        let Some(thread) = look_ahead(&course, &mut ahead, &mut threads)? else {
+            return Ok(None);
+        };
+        match number_after(number, thread, race) {
+            None => return Ok(point_of(course, past, thread)),
+            Some(rest) => number = rest,
+        }
+        match course.advance(code, case, input, steps)? {
+            Advance::Onward(next) => course = next,
+            Advance::Over(_, _) => return Ok(None),
+        }
+        past.note(&course)?;
+    }
+    Ok(None)
+}

@@ -1,0 +1,46 @@
+//! Runs with the repeat test after each turn.
+
+ghost use Rattle.std.specs.Prelude.{◌≡◌, ◌+◌, ◌<◌, ◌^◌, IfOk, List};
+ghost use Rattle.machine_model.specs.Primary.{setting_of};
+ghost use Rattle.machine_model.specs.Repeat.{Snapshot};
+ghost use Rattle.machine_model.specs.TestedRun.{tested_on};
+ghost use Rattle.race_top.specs.Course.{IsOf, course_of};
+ghost use Rattle.race_top.specs.Past.{Recalls};
+
+use crate::course::{Advance, Course};
+use crate::order_enforcer::past::Past;
+use ir_types::{Input, Module};
+use machine_model::{Case, Outcome, Run};
+use rc_base::{NoMemory, Steps};
+use std::sync::ledger::Ledger;
+
+/// The run from a course on, with the repeat test after each turn.
+pub fn run_tested<L: Ledger>(
+    mut course: Course,
+    mut past: Past,
+    code: &Module,
+    case: &Case,
+    input: &Input,
+    steps: &mut Steps<L>,
+) -> Result<Run, NoMemory>
+    requires of { IsOf code.now case.now course }
+    requires short { past.turns + course.left + 1 < 2 ^ 32 }
+    ensures { IfOk result (λ run. (snapshots : List Snapshot) → Recalls snapshots past →
+        run ≡ tested_on (setting_of code.now case.now input.now) case.now.turns snapshots (course_of course)) }
+{
+    // Each turn costs at least 1, or is cut.
+    let most = u64::from(course.left) + 1;
+    for _ in 0..most {
+        match course.advance(code, case, input, steps)? {
+            Advance::Onward(next) => {
+                if past.repeats(&next) {
+                    return Ok(next.tell(past.repeat()));
+                }
+                past.note(&next)?;
+                course = next;
+            }
+            Advance::Over(last, outcome) => return Ok(last.tell(outcome)),
+        }
+    }
+    Ok(course.tell(Outcome::Spent))
+}
