@@ -1,5 +1,5 @@
 -- The results of a race's jobs are as the verdict asks.
-use Rattle.std.proofs.Common.{◌≡◌, ◌≢◌, ℕ, zero, suc, ◌+◌, ◌<◌, ◌⊎◌, Bool, true, false, cond, List, ◌∷◌, [], length, get_or, Option, Some, None, refl, sym, ap, subst, ◌∙◌, inl, inr, arith}
+use Rattle.std.proofs.Common.{◌≡◌, ◌≢◌, ℕ, zero, suc, ◌<◌, ◌⊎◌, Bool, true, false, cond, List, ◌∷◌, [], length, get_or, Option, Some, None, refl, sym, ap, subst, ◌∙◌, inl, inr, arith}
 use Rattle.std.specs.Prelude.{Contains, IsSome, ◌&&◌}
 use Rattle.ir_types.specs.declared.input.Input.{Input}
 use Rattle.ir_types.specs.declared.«module».Module.{Module}
@@ -19,11 +19,10 @@ use Rattle.machine_model.specs.Setting.{Setting}
 use Rattle.race_verdict.specs.declared.result.JobKind.{JobKind}
 use Rattle.race_verdict.specs.declared.result.JobKind.TheVariants as kinds
 use Rattle.race_verdict.specs.declared.result.JobResult.{JobResult}
-use Rattle.race_verdict.specs.declared.result.Judged.{Judged}
 use Rattle.race_verdict.specs.declared.result.Judged.TheVariants.{Admitted, Never, NotJudged}
 use Rattle.race_verdict.specs.Results.{AreResults, IsRan, job_of}
 use Rattle.race_verdict.specs.Verdict.{exits, run_that}
-use Rattle.race_top.specs.AnalyserPool.{judged_of, judged_run, kind_of, results_of, same_output}
+use Rattle.race_top.specs.AnalyserPool.{judged_of, kind_of, results_of, same_output}
 
 -- an element of a list of two is one of them
 of-two : {A : Type 0} (one other found : A) → Contains (one ∷ other ∷ []) found → (found ≡ one) ⊎ (found ≡ other)

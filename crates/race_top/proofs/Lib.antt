@@ -7,6 +7,8 @@ pub mod CaseParts
 pub mod CaseSpelled
 pub mod CaseTurns
 pub mod Courses
+pub mod HoldCases
+pub mod HoldLaws
 pub mod Holds
 pub mod IrBuilds
 pub mod IrLines

@@ -17,7 +17,7 @@ use Rattle.race_top.specs.ReplayLaws.{course_after, onward_from}
 use Rattle.race_top.specs.TraceReplay.{ReplayFault, fault_at_end, fault_from, first_other, replay_fault}
 use Rattle.race_top.specs.TraceReplay.ReplayFault.{TurnNotEnabled}
 use Rattle.race_top.proofs.Refusals.{differs}
-use Rattle.race_top.proofs.Replays.{Chooser, Continues, Follows, IsAt, chosen-begins, follows-next, may-choose, mode-stays, next-in, run_from-begins, slice_get-after}
+use Rattle.race_top.proofs.Replays.{Chooser, Continues, IsAt, chosen-begins, follows-next, may-choose, mode-stays, next-in, run_from-begins, slice_get-after}
 
 -- two lists have a front in common, and then differ
 pub record Parts (listed turns : List ℕ) (before : ℕ) : Type 0 where

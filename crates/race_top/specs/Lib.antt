@@ -28,6 +28,7 @@ pub mod IrScope
 pub mod IrSpelling
 pub mod IrTable
 pub mod OrderEnforcer
+pub mod OrderEnforcerLaws
 pub mod Past
 pub mod Refusal
 pub mod ReplayLaws

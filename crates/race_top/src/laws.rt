@@ -5,6 +5,7 @@ pub use crate::analyser_pool::laws::jobs_give_results;
 pub use crate::case_text::laws::{accepted_text_is_its_lines, spelled_text_is_accepted};
 pub use crate::ir_lex::laws::tokens_are_laid_out;
 pub use crate::ir_read::laws::form_is_its_spelling;
+pub use crate::order_enforcer::laws::hold_enforces_the_order;
 pub use crate::report_text::laws::runs_are_maximal;
 pub use crate::trace_replay::laws::{
     recorded_run_reaches, refusals_are_exact, refused_is_not_enabled, turns_give_the_run,
