@@ -1,0 +1,17 @@
+pub mod Accepted
+pub mod Bodies
+pub mod Decimals
+pub mod Headings
+pub mod Lacking
+pub mod Lines
+pub mod Made
+pub mod Numerals
+pub mod PairLines
+pub mod Parts
+pub mod RowLines
+pub mod Rowed
+pub mod Several
+pub mod Spelled
+pub mod TurnLines
+pub mod Turns
+pub mod WatchLines

@@ -1,0 +1,12 @@
+pub mod Body
+pub mod Fault
+pub mod Field
+pub mod Input
+pub mod Line
+pub mod Pair
+pub mod Read
+pub mod Rows
+pub mod Run
+pub mod Spelling
+pub mod Watch
+pub mod Words
