@@ -1,0 +1,9 @@
+pub mod Block
+pub mod Input
+pub mod Items
+pub mod Laws
+pub mod Lines
+pub mod Outcome
+pub mod Replay
+pub mod Report
+pub mod Turns

@@ -1,0 +1,24 @@
+//! The texts that the program writes of runs and of races.
+//!
+//! - `replay`: the text of a replayed run
+//! - `report`, `block`: the text of the classes of some races, and the block of one
+//! - `turns`, `items`, `outcome`, `input`: what stands in their lines
+//! - `numbers`: decimal and hexadecimal numbers
+//! - `laws`: what holds of the runs of turns that are printed
+#![tactic(auto)]
+
+mod block;
+mod input;
+mod items;
+pub mod laws;
+mod numbers;
+mod outcome;
+mod replay;
+mod report;
+mod turns;
+
+pub use replay::print_replay;
+pub use report::{RaceReport, print_report};
+
+#[cfg(test)]
+mod tests;

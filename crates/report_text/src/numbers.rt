@@ -1,0 +1,59 @@
+//! Numbers in decimal and in lower-case hexadecimal.
+
+ghost use Rattle.std.specs.Prelude.{◌≡◌, ◌<◌, [], ◌∷◌, ◌++◌, decimal, false, OnOk};
+ghost use Rattle.std.specs.Fmt.{digit_glyph, signed_decimal};
+ghost use Rattle.report_text.specs.Items.{byte_digits, hexadecimal};
+
+use itoa::Buffer;
+use std::alloc::AllocError;
+
+/// Appends a number in decimal.
+pub fn push_decimal(text: &mut Vec<u8>, number: u64) -> Result<(), AllocError>
+    ensures { OnOk result (text.new.items ≡ text.old.items ++ decimal number) }
+{
+    text.extend_from_slice(Buffer::new().format(number).as_bytes())
+}
+
+/// Appends a number in decimal, with a minus sign where it is negative.
+pub fn push_signed_decimal(text: &mut Vec<u8>, number: i64) -> Result<(), AllocError>
+    ensures { OnOk result (text.new.items ≡ text.old.items ++ signed_decimal number) }
+{
+    text.extend_from_slice(Buffer::new().format(number).as_bytes())
+}
+
+/// Appends a byte as two hexadecimal digits.
+pub fn push_byte_digits(text: &mut Vec<u8>, byte: u8) -> Result<(), AllocError>
+    ensures { OnOk result (text.new.items ≡ text.old.items ++ byte_digits byte) }
+{
+    text.extend_from_slice(&[hexadecimal_digit(byte / 16), hexadecimal_digit(byte % 16)])
+}
+
+/// Appends a number in hexadecimal, without leading zeros.
+#[tactic(auto, using(crate::proofs::Digits::hexadecimal_steps))]
+pub fn push_hexadecimal(text: &mut Vec<u8>, number: u64) -> Result<(), AllocError>
+    ensures { OnOk result (text.new.items ≡ text.old.items ++ hexadecimal number) }
+{
+    if number < 16 {
+        return push_digit(text, number as u8);
+    }
+    push_hexadecimal(text, number / 16)?;
+    push_digit(text, (number % 16) as u8)
+}
+
+fn push_digit(text: &mut Vec<u8>, digit: u8) -> Result<(), AllocError>
+    requires { digit < 16 }
+    ensures { OnOk result (text.new.items ≡ text.old.items ++ digit_glyph false digit ∷ []) }
+{
+    text.extend_from_slice(&[hexadecimal_digit(digit)])
+}
+
+fn hexadecimal_digit(digit: u8) -> u8
+    requires { digit < 16 }
+    ensures { result ≡ digit_glyph false digit }
+{
+    if digit < 10 {
+        b'0' + digit
+    } else {
+        b'a' + (digit - 10)
+    }
+}
