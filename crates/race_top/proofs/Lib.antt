@@ -1,11 +1,4 @@
-pub mod CaseAccepted
-pub mod CaseBodies
-pub mod CaseInput
-pub mod CaseLines
-pub mod CaseNumber
-pub mod CaseParts
-pub mod CaseSpelled
-pub mod CaseTurns
+pub mod ClassEvidence
 pub mod Courses
 pub mod HoldCases
 pub mod HoldLaws
@@ -27,12 +20,9 @@ pub mod RaceReached
 pub mod Readings
 pub mod Refusals
 pub mod Replays
-pub mod ReportDigits
-pub mod ReportMaximal
-pub mod ReportRuns
-pub mod ReportWords
 pub mod SeenPairs
 pub mod Sigils
 pub mod Spellings
 pub mod Tested
 pub mod Tokens
+pub mod Unread

@@ -1,5 +1,5 @@
 -- The class of a race on the recorded path, with the schedule that follows the recorded turns.
-use Rattle.std.specs.Prelude.{Bool, ◌&&◌, List, [], ◌∷◌, if◌then◌else◌}
+use Rattle.std.specs.Prelude.{Bool, ◌&&◌, List, [], ◌∷◌, if◌then◌else◌, map}
 use Rattle.std.specs.Cmp.Lexicographic.{pointwise}
 use Rattle.ir_types.specs.declared.input.Input.{Input}
 use Rattle.ir_types.specs.declared.«module».Module.{Module}
@@ -17,6 +17,7 @@ use Rattle.race_verdict.specs.declared.result.Judged.{Judged}
 use Rattle.race_verdict.specs.declared.result.Judged.TheVariants.{Admitted, Never, NotJudged}
 use Rattle.race_verdict.specs.declared.verdict.Verdict.{Verdict}
 use Rattle.race_verdict.specs.Verdict.{VerdictOf, exits}
+use Rattle.report_text.specs.declared.report.RaceReport.{RaceReport}
 
 abbrev pub same_output : List OutItem → List OutItem → Bool
 same_output one other = pointwise (item.ghosts).eq one other
@@ -55,3 +56,11 @@ results_of code case race =
 -- the class of the race, with its evidence
 abbrev pub ClassOf : Module → Case → Race → Verdict
 ClassOf code case race = VerdictOf (results_of code case race)
+
+-- the classes of some races, with the turns that race
+abbrev pub report_of : Module → Case → Race → RaceReport
+report_of code case race =
+    record { first = race.first; second = race.second; verdict = ClassOf code case race }
+
+abbrev pub reports_of : Module → Case → List Race → List RaceReport
+reports_of code case races = map (report_of code case) races

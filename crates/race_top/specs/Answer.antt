@@ -1,7 +1,7 @@
 -- What the code answers, in terms of what the bytes are due.
 use Rattle.std.specs.Prelude.{◌≡◌, Result, Ok, Err}
 use Rattle.race_top.specs.declared.refusal.Refusal.{Refusal}
-use Rattle.race_top.specs.declared.refusal.Refusal.TheVariants.{TooLong, ModuleUnsupported, ModuleBadShape, CaseSyntax, CaseRange, ReplayTurnNotEnabled, ReplayEndsEarly, ReplaySpent}
+use Rattle.race_top.specs.declared.refusal.Refusal.TheVariants.{TooLong, ModuleUnsupported, ModuleBadShape, CaseSyntax, CaseRange, CaseSite, CaseSlot, ReplayTurnNotEnabled, ReplayEndsEarly, ReplaySpent, RaceRange, RaceSameThread, RaceNotWatched, RaceNoConflict}
 use Rattle.race_top.specs.declared.stop.Stop.{Stop}
 use Rattle.race_top.specs.declared.stop.Stop.TheVariants as stops
 
@@ -26,9 +26,15 @@ IsOfBytes (ModuleUnsupported line) = Unit {0}
 IsOfBytes (ModuleBadShape line) = Unit {0}
 IsOfBytes (CaseSyntax line) = Unit {0}
 IsOfBytes (CaseRange line) = Unit {0}
+IsOfBytes (CaseSite line) = Unit {0}
+IsOfBytes (CaseSlot line) = Unit {0}
 IsOfBytes (ReplayTurnNotEnabled turn) = Unit {0}
 IsOfBytes (ReplayEndsEarly turn) = Unit {0}
 IsOfBytes (ReplaySpent turn) = Unit {0}
+IsOfBytes (RaceRange race) = Unit {0}
+IsOfBytes (RaceSameThread race) = Unit {0}
+IsOfBytes (RaceNotWatched race) = Unit {0}
+IsOfBytes (RaceNoConflict race) = Unit {0}
 
 -- and so is the refusal of a stop, which no read caused
 abbrev pub StopsByBytes : {X : Type 0} → Result X Stop → Type 0

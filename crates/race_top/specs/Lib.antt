@@ -1,13 +1,7 @@
 pub mod Access
 pub mod AnalyserPool
-pub mod AnalyserPoolAnswers
 pub mod AnalyserPoolLaws
 pub mod Answer
-pub mod CaseBody
-pub mod CaseFault
-pub mod CaseSpelling
-pub mod CaseText
-pub mod CaseWords
 pub mod CheckRace
 pub mod CheckRaceLaws
 pub mod Command
@@ -15,6 +9,8 @@ pub mod Course
 pub mod Due
 pub mod File
 pub mod Files
+pub mod Evidence
+pub mod FirstRefusal
 pub mod HoldTurn
 pub mod IrBuild
 pub mod IrCheck
@@ -30,12 +26,10 @@ pub mod IrTable
 pub mod OrderEnforcer
 pub mod OrderEnforcerLaws
 pub mod Past
+pub mod Races
+pub mod Recorded
 pub mod Refusal
 pub mod ReplayLaws
-pub mod ReportItems
-pub mod ReportLaws
-pub mod ReportText
-pub mod ReportTurns
 pub mod Seen
 pub mod Status
 pub mod Stop

@@ -1,15 +1,14 @@
 -- What the exit status says of what was read and written, also where no bytes are told.
-use Rattle.std.specs.Prelude.{◌≡◌, ℕ, ◌+◌, ◌⊎◌, List, Option}
-use Rattle.ir_types.specs.declared.«module».Module.{Module}
-use Rattle.machine_model.specs.declared.run.Run.{Run}
+use Rattle.std.specs.Prelude.{◌≡◌, ℕ, ◌+◌, ◌⊎◌, List, Option, Some, Ok}
 use Rattle.rc_base.specs.Counts.{RoseBy}
 use Rattle.rc_base.specs.Sink.{Appends}
 use Rattle.rc_base.specs.Write.{AppendsFront}
 use Rattle.race_top.specs.declared.refusal.Refusal.{Refusal}
-use Rattle.race_top.specs.declared.refusal.Refusal.TheVariants.{TooLong, ModuleUnsupported, ModuleBadShape, CaseSyntax, CaseRange, ReplayTurnNotEnabled, ReplayEndsEarly, ReplaySpent}
+use Rattle.race_top.specs.declared.refusal.Refusal.TheVariants.{TooLong, ModuleUnsupported, ModuleBadShape, CaseSyntax, CaseRange, CaseSite, CaseSlot, ReplayTurnNotEnabled, ReplayEndsEarly, ReplaySpent, RaceRange, RaceSameThread, RaceNotWatched, RaceNoConflict}
+use Rattle.race_top.specs.Command.{Task}
+use Rattle.race_top.specs.Due.{answer_in_files}
 use Rattle.race_top.specs.File.{limit_of}
 use Rattle.race_top.specs.Refusal.{refusal_line}
-use Rattle.race_top.specs.ReportText.{replay_text}
 
 -- done, usage, a failed read, a refusal, a failed write, or want of memory
 abbrev pub IsStatus : ℕ → Type 0
@@ -30,9 +29,15 @@ HasPlace (ModuleUnsupported line) before now = Unit {0}
 HasPlace (ModuleBadShape line) before now = Unit {0}
 HasPlace (CaseSyntax line) before now = Unit {0}
 HasPlace (CaseRange line) before now = Unit {0}
+HasPlace (CaseSite line) before now = Unit {0}
+HasPlace (CaseSlot line) before now = Unit {0}
 HasPlace (ReplayTurnNotEnabled turn) before now = Unit {0}
 HasPlace (ReplayEndsEarly turn) before now = Unit {0}
 HasPlace (ReplaySpent turn) before now = Unit {0}
+HasPlace (RaceRange race) before now = Unit {0}
+HasPlace (RaceSameThread race) before now = Unit {0}
+HasPlace (RaceNotWatched race) before now = Unit {0}
+HasPlace (RaceNoConflict race) before now = Unit {0}
 
 -- the text is a refusal's line
 pub record IsRefusal (text : List ℕ) (given_before given_now : ℕ) : Type 0 where
@@ -40,11 +45,13 @@ pub record IsRefusal (text : List ℕ) (given_before given_now : ℕ) : Type 0 w
   pub place : HasPlace refusal given_before given_now
   pub line : text ≡ refusal_line refusal
 
--- the text is that of a replayed run
-pub record IsReplay (text : List ℕ) : Type 0 where
-  pub run : Run
-  pub code : Module
-  pub whole : text ≡ replay_text run code
+-- the text is what some module and case are due of the task
+pub record IsAnswer (asked : Option Task) (text : List ℕ) : Type 0 where
+  pub task : Task
+  pub code : List ℕ
+  pub case : List ℕ
+  pub is_asked : asked ≡ Some task
+  pub is_due : answer_in_files task code case ≡ Ok text
 
 -- a refusal's line was written whole
 pub record WritesRefusal (before now : Option (List ℕ)) (given_before given_now : ℕ) : Type 0 where
@@ -52,14 +59,14 @@ pub record WritesRefusal (before now : Option (List ℕ)) (given_before given_no
   pub line : IsRefusal text given_before given_now
   pub written : Appends before now text
 
--- a replayed run was written whole
-pub record WritesReplay (before now : Option (List ℕ)) : Type 0 where
+-- an answer was written whole
+pub record WritesAnswer (asked : Option Task) (before now : Option (List ℕ)) : Type 0 where
   pub text : List ℕ
-  pub replay : IsReplay text
+  pub answer : IsAnswer asked text
   pub written : Appends before now text
 
 -- a front of either was written
-pub record WritesFront (before now : Option (List ℕ)) (given_before given_now : ℕ) : Type 0 where
+pub record WritesFront (asked : Option Task) (before now : Option (List ℕ)) (given_before given_now : ℕ) : Type 0 where
   pub text : List ℕ
-  pub either : IsRefusal text given_before given_now ⊎ IsReplay text
+  pub either : IsRefusal text given_before given_now ⊎ IsAnswer asked text
   pub written : AppendsFront before now text

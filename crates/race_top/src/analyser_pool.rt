@@ -6,33 +6,50 @@
 mod jobs;
 pub mod laws;
 
-ghost use Rattle.std.specs.Prelude.{◌≡◌, ◌<◌, ◌^◌, length, slice_index_or};
+ghost use Rattle.std.specs.Prelude.{◌≡◌, ◌<◌, ◌^◌, All, IfOk, true};
+ghost use Rattle.machine_model.specs.Reach.{Reaches};
 ghost use Rattle.machine_model.specs.Runnable.{IsRunnable};
-ghost use Rattle.race_top.specs.AnalyserPoolAnswers.{TellsClass};
-ghost use Rattle.race_top.specs.CheckRace.{RaceOf};
+ghost use Rattle.race_top.specs.AnalyserPool.{report_of, reports_of};
 
 use crate::analyser_pool::jobs::results;
-use crate::trace_replay::laws::recorded_run_reaches;
-use crate::trace_replay::{RaceError, check_race};
 use ir_types::Module;
-use machine_model::Case;
-use race_verdict::{Verdict, reduce};
+use machine_model::{Case, Race};
+use race_verdict::reduce;
+use rc_base::NoMemory;
+use report_text::RaceReport;
 use std::alloc::Global;
 
-/// The class of the race with this index, or why it is none.
-pub fn classify_race(
+/// The classes of some races that the recorded run reaches, in their order.
+pub fn analyse(
     alloc: Global,
     code: &Module,
     case: &Case,
-    index: u32,
-) -> Result<Verdict, RaceError>
+    races: &[Race],
+) -> Result<Vec<RaceReport>, NoMemory>
     requires runnable { IsRunnable code.now }
     requires steps { case.now.steps < 2 ^ 30 }
-    requires index { index < length case.now.races }
-    ensures { TellsClass result code.now case.now (RaceOf code.now case.now (slice_index_or case.now.races index (0, 0))) }
+    requires reached { All (λ race. Reaches code.now case.now race case.now.input ≡ true) races.now }
+    ensures { IfOk result (λ reports. reports.items ≡ reports_of code.now case.now races.now) }
 {
-    let race = check_race(alloc, code, case, index)?;
-    recorded_run_reaches();
-    let results = results(alloc, code, case, &race).map_err(|_| RaceError::NoMemory)?;
-    reduce(alloc, &results).map_err(|_| RaceError::NoMemory)
+    let mut reports = Vec::new(alloc);
+    for race in races {
+        reports.push(report(alloc, code, case, race)?)?;
+    }
+    Ok(reports)
+}
+
+/// The class of a race, with its two turns.
+fn report(alloc: Global, code: &Module, case: &Case, race: &Race) -> Result<RaceReport, NoMemory>
+    requires runnable { IsRunnable code.now }
+    requires steps { case.now.steps < 2 ^ 30 }
+    requires reached { Reaches code.now case.now race.now case.now.input ≡ true }
+    ensures { IfOk result (λ report. report ≡ report_of code.now case.now race.now) }
+{
+    let results = results(alloc, code, case, race)?;
+    let verdict = reduce(alloc, &results)?;
+    Ok(RaceReport {
+        first: race.first,
+        second: race.second,
+        verdict,
+    })
 }

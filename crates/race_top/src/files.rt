@@ -28,9 +28,8 @@ impl Files {
         ensures cause { HasCauses result (F.faults shelf.old) (F.faults shelf.new) (F.given shelf.old) (F.given shelf.new) }
         ensures told { (other : List ℕ) → F.holds shelf.new other ≡ F.holds shelf.old other }
     {
-        let Command::Replay { module, case } = command;
-        let module = read_file(alloc, shelf, module, File::Module)?;
-        let case = read_file(alloc, shelf, case, File::Case)?;
+        let module = read_file(alloc, shelf, command.module(), File::Module)?;
+        let case = read_file(alloc, shelf, command.case(), File::Case)?;
         Ok(Files { module, case })
     }
 }

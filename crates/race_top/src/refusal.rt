@@ -19,12 +19,24 @@ pub enum Refusal {
     CaseSyntax { line: u32 },
     /// A number in the line of the case is out of its bounds.
     CaseRange { line: u32 },
+    /// The line of the case names no load or store of the module, or one that was named before.
+    CaseSite { line: u32 },
+    /// The line of the case gives an input that the module does not read so.
+    CaseSlot { line: u32 },
     /// The thread of the listed turn is not enabled.
     ReplayTurnNotEnabled { turn: u32 },
     /// The run has ended before the listed turn.
     ReplayEndsEarly { turn: u32 },
     /// The budget of steps ran out in the listed turn.
     ReplaySpent { turn: u32 },
+    /// The turns of the race aren't two recorded ones, the second after the first.
+    RaceRange { race: u32 },
+    /// Both turns of the race are of one thread.
+    RaceSameThread { race: u32 },
+    /// A turn of the race did no access at a watched site.
+    RaceNotWatched { race: u32 },
+    /// The accesses of the race have no byte in common, or both are loads.
+    RaceNoConflict { race: u32 },
 }
 
 impl Refusal {
@@ -38,13 +50,19 @@ impl Refusal {
             Refusal::ModuleBadShape { .. } => "ModuleBadShape",
             Refusal::CaseSyntax { .. } => "CaseSyntax",
             Refusal::CaseRange { .. } => "CaseRange",
+            Refusal::CaseSite { .. } => "CaseSite",
+            Refusal::CaseSlot { .. } => "CaseSlot",
             Refusal::ReplayTurnNotEnabled { .. } => "ReplayTurnNotEnabled",
             Refusal::ReplayEndsEarly { .. } => "ReplayEndsEarly",
             Refusal::ReplaySpent { .. } => "ReplaySpent",
+            Refusal::RaceRange { .. } => "RaceRange",
+            Refusal::RaceSameThread { .. } => "RaceSameThread",
+            Refusal::RaceNotWatched { .. } => "RaceNotWatched",
+            Refusal::RaceNoConflict { .. } => "RaceNoConflict",
         }
     }
 
-    /// The file's number, the line, or the number of the listed turn.
+    /// The file's number, the line, or the number of the listed turn or of the race.
     pub fn place(self) -> u32
         ensures { result ≡ place_of self }
     {
@@ -53,10 +71,16 @@ impl Refusal {
             Refusal::ModuleUnsupported { line }
             | Refusal::ModuleBadShape { line }
             | Refusal::CaseSyntax { line }
-            | Refusal::CaseRange { line } => line,
+            | Refusal::CaseRange { line }
+            | Refusal::CaseSite { line }
+            | Refusal::CaseSlot { line } => line,
             Refusal::ReplayTurnNotEnabled { turn }
             | Refusal::ReplayEndsEarly { turn }
             | Refusal::ReplaySpent { turn } => turn,
+            Refusal::RaceRange { race }
+            | Refusal::RaceSameThread { race }
+            | Refusal::RaceNotWatched { race }
+            | Refusal::RaceNoConflict { race } => race,
         }
     }
 

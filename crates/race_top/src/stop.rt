@@ -2,10 +2,10 @@
 
 ghost use Rattle.std.specs.Prelude.{◌≡◌};
 
-use crate::case_text::CaseError;
 use crate::ir_check::ModuleError;
 use crate::refusal::Refusal;
-use crate::trace_replay::ReplayError;
+use crate::trace_replay::{RaceError, ReplayError};
+use case_text::CaseError;
 use rc_base::NoMemory;
 
 /// Why there is no text to write.
@@ -49,6 +49,8 @@ impl From<CaseError> for Stop {
         match error {
             CaseError::Syntax { line } => Stop::Refused(Refusal::CaseSyntax { line }),
             CaseError::Range { line } => Stop::Refused(Refusal::CaseRange { line }),
+            CaseError::Site { line } => Stop::Refused(Refusal::CaseSite { line }),
+            CaseError::Slot { line } => Stop::Refused(Refusal::CaseSlot { line }),
             CaseError::NoMemory => Stop::NoMemory,
         }
     }
@@ -67,6 +69,23 @@ impl From<ReplayError> for Stop {
             ReplayError::EndsEarly { turn } => Stop::Refused(Refusal::ReplayEndsEarly { turn }),
             ReplayError::Spent { turn } => Stop::Refused(Refusal::ReplaySpent { turn }),
             ReplayError::NoMemory => Stop::NoMemory,
+        }
+    }
+}
+
+impl Stop {
+    ghost use Rattle.race_top.specs.Stop.{stop_of_race};
+
+    /// Why the pair of turns of this number, counted from 1, is no race.
+    pub fn of_race(race: u32, error: RaceError) -> Stop
+        ensures { result ≡ stop_of_race race error }
+    {
+        match error {
+            RaceError::Range => Stop::Refused(Refusal::RaceRange { race }),
+            RaceError::SameThread => Stop::Refused(Refusal::RaceSameThread { race }),
+            RaceError::NotWatched => Stop::Refused(Refusal::RaceNotWatched { race }),
+            RaceError::NoConflict => Stop::Refused(Refusal::RaceNoConflict { race }),
+            RaceError::NoMemory => Stop::NoMemory,
         }
     }
 }

@@ -4,9 +4,9 @@
 //! - `statuses`: the statuses, and what is written and read with each
 //! - `refusals`: the places of what is wrong in a module or a case
 //! - `replays`: what is written of a run, and listed turns that can't be taken
-//! - `races`, `situations`: the classes of races, and pairs of turns that are none
+//! - `classes`, `situations`: what is written of races, and of pairs of turns that are none
 
-mod races;
+mod classes;
 mod refusals;
 mod replays;
 mod situations;

@@ -9,9 +9,9 @@ ghost use Rattle.race_top.specs.Command.{command_of, task_of};
 ghost use Rattle.race_top.specs.Due.{Tells, answer_in_files, due};
 ghost use Rattle.race_top.specs.Files.{HasCauses};
 ghost use Rattle.race_top.specs.Refusal.{refusal_line};
-ghost use Rattle.race_top.specs.Status.{IsReplay, IsSilent, IsStatus, IsWhole, WritesFront, WritesRefusal, WritesReplay};
+ghost use Rattle.race_top.specs.Status.{IsAnswer, IsSilent, IsStatus, IsWhole, WritesAnswer, WritesFront, WritesRefusal};
 
-use crate::answer::replay_text;
+use crate::answer::{classified_text, replayed_text};
 use crate::command::Command;
 use crate::files::Files;
 use crate::refusal::Refusal;
@@ -39,23 +39,24 @@ pub fn run<R: Threads + Sync, F: Shelf, O: Sink, P: Sink, G: Gate + Sync>(
     ensures unread { result ≡ USAGE → (F.faults shelf.new ≡ F.faults shelf.old) × (F.given shelf.new ≡ F.given shelf.old) }
 
     // The cause of each status, also where no bytes are told.
-    ensures replay { result ≡ WHOLE → WritesReplay (O.wrote out.old) (O.wrote out.new) }
+    ensures answer { result ≡ WHOLE → WritesAnswer (command_of words.now) (O.wrote out.old) (O.wrote out.new) }
     ensures read { result ≡ READ_FAILED → Rose (F.faults shelf.old) (F.faults shelf.new) }
     ensures refusal { result ≡ REFUSED → WritesRefusal (O.wrote out.old) (O.wrote out.new) (F.given shelf.old) (F.given shelf.new) }
     ensures write { result ≡ WRITE_FAILED → Rose (O.faults out.old) (O.faults out.new) }
-    ensures front { result ≡ WRITE_FAILED → WritesFront (O.wrote out.old) (O.wrote out.new) (F.given shelf.old) (F.given shelf.new) }
+    ensures front { result ≡ WRITE_FAILED → WritesFront (command_of words.now) (O.wrote out.old) (O.wrote out.new) (F.given shelf.old) (F.given shelf.new) }
     ensures silent { IsSilent result → Keeps (O.wrote out.old) (O.wrote out.new) }
     ensures proofs { (P.wrote proofs.new ≡ P.wrote proofs.old) × (P.faults proofs.new ≡ P.faults proofs.old) }
 
     // Where the shelf tells the bytes of the files, these decide.
     ensures due { (code case : List ℕ) → Tells (F.holds shelf.old) (command_of words.now) code case →
-        IsWhole result → (result ≡ (due code case).status) × Appends (O.wrote out.old) (O.wrote out.new) (due code case).text }
+        IsWhole result → (result ≡ (due (command_of words.now) code case).status)
+        × Appends (O.wrote out.old) (O.wrote out.new) (due (command_of words.now) code case).text }
     ensures due_front { (code case : List ℕ) → Tells (F.holds shelf.old) (command_of words.now) code case →
-        result ≡ WRITE_FAILED → AppendsFront (O.wrote out.old) (O.wrote out.new) (due code case).text }
+        result ≡ WRITE_FAILED → AppendsFront (O.wrote out.old) (O.wrote out.new) (due (command_of words.now) code case).text }
     ensures complete { (code case : List ℕ) → Tells (F.holds shelf.old) (command_of words.now) code case →
         F.faults shelf.new ≡ F.faults shelf.old → F.faults shelf.old < count_end →
         O.faults out.new ≡ O.faults out.old → O.faults out.old < count_end →
-        (result ≡ (due code case).status) ⊎ (result ≡ NO_MEMORY) }
+        (result ≡ (due (command_of words.now) code case).status) ⊎ (result ≡ NO_MEMORY) }
 
     // Nothing that the shelf tells changes, and no count falls.
     ensures told { (name : List ℕ) → F.holds shelf.new name ≡ F.holds shelf.old name }
@@ -73,15 +74,19 @@ pub fn run<R: Threads + Sync, F: Shelf, O: Sink, P: Sink, G: Gate + Sync>(
 }
 
 /// Reads the files of a command and makes its text.
+#[tactic(auto, using(crate::proofs::Unread::refused_first))]
 fn prepare<F: Shelf>(alloc: Global, shelf: &mut F, command: Command<'_>) -> Result<Vec<u8>, Stop>
     ensures due { (code case : List ℕ) → Tells (F.holds shelf.old) (Some (task_of command.entry)) code case →
-        GivesIfRead (λ text. text.items) result (answer_in_files code case) }
-    ensures replay { IfOk result (λ text. IsReplay text.items) }
+        GivesIfRead (λ text. text.items) result (answer_in_files (task_of command.entry) code case) }
+    ensures answer { IfOk result (λ text. IsAnswer (Some (task_of command.entry)) text.items) }
     ensures cause { HasCauses result (F.faults shelf.old) (F.faults shelf.new) (F.given shelf.old) (F.given shelf.new) }
     ensures told { (other : List ℕ) → F.holds shelf.new other ≡ F.holds shelf.old other }
 {
     let files = Files::read(alloc, shelf, command)?;
-    replay_text(alloc, &files)
+    match command {
+        Command::Replay { .. } => replayed_text(alloc, &files),
+        Command::Classify { .. } => classified_text(alloc, &files),
+    }
 }
 
 /// Writes the line of a refusal, once it is made.

@@ -1,8 +1,14 @@
 //! Laws of the jobs. No function here does anything; each one's contract is a theorem.
 
 ghost use Rattle.race_top.specs.AnalyserPoolLaws.{JobsGiveResults};
+ghost use Rattle.race_top.specs.Evidence.{ClassesHaveEvidence};
 
 /// The results of a race's jobs are as the verdict asks.
 pub fn jobs_give_results()
     ensures { JobsGiveResults }
+{}
+
+/// The class of each race of a case is shown by the runs that it names.
+pub fn classes_have_evidence()
+    ensures { ClassesHaveEvidence }
 {}

@@ -1,6 +1,6 @@
 //! The places of what is wrong in a module or a case: the worked example with one line changed.
 
-use super::texts::{CASE, MODULE, assert_answer, first_lines, with_line};
+use super::texts::{CASE, MODULE, REPLAY, assert_answer, first_lines, with_line};
 use crate::REFUSED;
 use std::test::Fail;
 
@@ -69,7 +69,7 @@ static MODULES: [(usize, &str, &str); 24] = [
 ];
 
 /// The same for the case.
-static CASES: [(usize, &str, &str); 21] = [
+static CASES: [(usize, &str, &str); 24] = [
     (1, "portend-case 2", "refused CaseSyntax 1\n"),
     (2, "seed x", "refused CaseSyntax 2\n"),
     (2, "seed 18446744073709551616", "refused CaseRange 2\n"),
@@ -86,9 +86,12 @@ static CASES: [(usize, &str, &str); 21] = [
     (7, "turn 0*20001", "refused CaseRange 7\n"),
     (7, "turn", "refused CaseSyntax 7\n"),
     (7, "turn 16 00", "refused CaseSyntax 7\n"),
-    (7, "input 0 32 5", "refused CaseSyntax 7\n"),
-    (7, "watch a 0", "refused CaseSyntax 7\n"),
-    (7, "race 1 2", "refused CaseSyntax 7\n"),
+    (7, "input 0 32 5", "refused CaseSlot 7\n"),
+    (7, "input 0 33 5", "refused CaseRange 7\n"),
+    (7, "watch a 1", "refused CaseSite 7\n"),
+    (7, "watch a 0\nwatch a 0", "refused CaseSite 8\n"),
+    (7, "turn 0*2\nwatch a 0", "refused CaseSyntax 8\n"),
+    (7, "race 1 2\nrace 1 2", "refused CaseRange 8\n"),
     (8, "", "refused CaseSyntax 8\n"),
     (8, "end\nx", "refused CaseSyntax 9\n"),
 ];
@@ -98,11 +101,11 @@ fn a_changed_line_is_refused_at_its_place(rt: HostRuntime) -> Result<(), Fail> {
     let alloc = rt.alloc();
     for (number, line, wanted) in &MODULES {
         let module = with_line(alloc, MODULE, *number, line)?;
-        assert_answer(&rt, alloc, &module, CASE, wanted, REFUSED)?;
+        assert_answer(&rt, alloc, &REPLAY, &module, CASE, wanted, REFUSED)?;
     }
     for (number, line, wanted) in &CASES {
         let case = with_line(alloc, CASE, *number, line)?;
-        assert_answer(&rt, alloc, MODULE, &case, wanted, REFUSED)?;
+        assert_answer(&rt, alloc, &REPLAY, MODULE, &case, wanted, REFUSED)?;
     }
     Ok(())
 }
@@ -118,7 +121,7 @@ fn a_text_that_is_cut_is_refused_at_its_end(rt: HostRuntime) -> Result<(), Fail>
         (11, "refused ModuleBadShape 0\n"),
     ] {
         let module = first_lines(alloc, MODULE, count)?;
-        assert_answer(&rt, alloc, &module, CASE, wanted, REFUSED)?;
+        assert_answer(&rt, alloc, &REPLAY, &module, CASE, wanted, REFUSED)?;
     }
     Ok(())
 }

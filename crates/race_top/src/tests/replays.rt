@@ -1,6 +1,6 @@
 //! What is written of a run, and listed turns that can't be taken: the worked example with one line changed.
 
-use super::texts::{CASE, MODULE, assert_answer, with_line};
+use super::texts::{CASE, MODULE, REPLAY, assert_answer, with_line};
 use crate::{REFUSED, WHOLE};
 use std::test::Fail;
 
@@ -70,15 +70,15 @@ fn changed_texts_replay_as_they_say(rt: HostRuntime) -> Result<(), Fail> {
     let alloc = rt.alloc();
     for (number, line, wanted) in &REFUSALS {
         let case = with_line(alloc, CASE, *number, line)?;
-        assert_answer(&rt, alloc, MODULE, &case, wanted, REFUSED)?;
+        assert_answer(&rt, alloc, &REPLAY, MODULE, &case, wanted, REFUSED)?;
     }
     for (number, line, wanted) in &CASES {
         let case = with_line(alloc, CASE, *number, line)?;
-        assert_answer(&rt, alloc, MODULE, &case, wanted, WHOLE)?;
+        assert_answer(&rt, alloc, &REPLAY, MODULE, &case, wanted, WHOLE)?;
     }
     for (number, line, wanted) in &MODULES {
         let module = with_line(alloc, MODULE, *number, line)?;
-        assert_answer(&rt, alloc, &module, CASE, wanted, WHOLE)?;
+        assert_answer(&rt, alloc, &REPLAY, &module, CASE, wanted, WHOLE)?;
     }
     Ok(())
 }

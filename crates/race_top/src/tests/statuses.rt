@@ -7,14 +7,17 @@ use std::test::Fail;
 
 #[test]
 fn words_that_are_no_command_are_refused(rt: HostRuntime) -> Result<(), Fail> {
-    let lines: [&[&str]; 10] = [
+    let lines: [&[&str]; 13] = [
         &[],
         &["replay"],
         &["replay", "m"],
         &["replay", "m", "c", "p"],
         &["Replay", "m", "c"],
         &["", "m", "c"],
-        &["classify", "m", "c", "p", "1"],
+        &["classify", "m", "c", "p"],
+        &["classify", "m", "c", "p", "2"],
+        &["classify", "m", "c", "p", "01"],
+        &["check", "m", "c", "r", "p"],
         &["generate", "6"],
         &["--help"],
         &["--version"],

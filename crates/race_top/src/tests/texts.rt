@@ -48,6 +48,8 @@ end
 
 pub const REPLAY: [&str; 3] = ["replay", "m", "c"];
 
+pub const CLASSIFY: [&str; 5] = ["classify", "m", "c", "p", "1"];
+
 /// A shelf with the module `m` and the case `c`.
 pub fn shelf_with(alloc: Global, module: &[u8], case: &[u8]) -> Result<MemShelf, NoMemory> {
     let mut shelf = MemShelf::new(alloc);
@@ -103,18 +105,19 @@ pub fn first_lines(alloc: Global, text: &[u8], count: usize) -> Result<Vec<u8>, 
     Ok(front)
 }
 
-/// Asserts what the program writes for a module and a case, and its status.
+/// Asserts what a command writes for a module and a case, and its status.
 pub fn assert_answer<R: Abort + Threads + Sync>(
     rt: &R,
     alloc: Global,
+    line: &[&str],
     module: &[u8],
     case: &[u8],
     wanted: &str,
     wanted_status: u8,
 ) -> Result<(), NoMemory> {
     let mut shelf = shelf_with(alloc, module, case)?;
-    let mut out = MemSink::new(alloc, 64, 128)?;
-    let status = answer(rt, alloc, &REPLAY, &mut shelf, &mut out)?;
+    let mut out = MemSink::new(alloc, 64, 512)?;
+    let status = answer(rt, alloc, line, &mut shelf, &mut out)?;
     assert_eq!(rt; out.bytes(), wanted.as_bytes());
     assert_eq!(rt; status, wanted_status, "{wanted}");
     Ok(())

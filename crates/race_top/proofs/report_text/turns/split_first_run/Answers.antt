@@ -1,8 +1,0 @@
-use Rattle.std.proofs.Common.{sym}
-use Rattle.race_top.proofs.ReportRuns.{front_run}
-use Rattle.race_top.proofs.report_text.turns.split_first_run.Goals as goal
-
-pub returns-clause-runs : goal.returns-clause-runs
-returns-clause-runs c =
-    front_run c.args.turns.now c.in_ok-thread.field-0.now c.count_front-count.result
-    (sym c.in_ok-thread.ensures.value) c.count_front-count.ensures.value
