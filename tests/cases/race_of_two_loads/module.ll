@@ -1,0 +1,25 @@
+@g = global i32 0
+@t = global i64 0
+@u = global i64 0
+declare i32 @pthread_create(ptr, ptr, ptr, ptr)
+declare i32 @pthread_join(i64, ptr)
+declare i32 @putchar(i32)
+define ptr @a(ptr %q) {
+  %l = load i32, ptr @g
+  ret ptr null
+}
+define ptr @b(ptr %q) {
+  %l = load i32, ptr @g
+  ret ptr null
+}
+define i32 @main() {
+  %c = call i32 @pthread_create(ptr @t, ptr null, ptr @a, ptr null)
+  %d = call i32 @pthread_create(ptr @u, ptr null, ptr @b, ptr null)
+  %s = load i64, ptr @t
+  %e = call i32 @pthread_join(i64 %s, ptr null)
+  %w = load i64, ptr @u
+  %f = call i32 @pthread_join(i64 %w, ptr null)
+  %v = load i32, ptr @g
+  %p = call i32 @putchar(i32 %v)
+  ret i32 0
+}
