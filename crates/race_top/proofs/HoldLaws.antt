@@ -49,12 +49,12 @@ over-turns next (outcomes.Repeats turn earlier) = refl
 over-turns next outcomes.Spent = refl
 
 -- the turn that was chosen while a thread is held is another's, and the thread is still held
-other-thread : (setting : Setting) (listed : List ℕ) (held : ℕ) (course next : Course) (choice : Choice) →
+pub other-thread : (setting : Setting) (listed : List ℕ) (held : ℕ) (course next : Course) (choice : Choice) →
     IsTurn setting listed course choice next → course.policy.mode ≡ Hold held → choice.thread ≢ held
 other-thread setting listed held course next choice is mode =
     rw mode at (choice-enabled listed course.policy (enabled setting course.state) choice is.chosen).1
 
-still-held : (setting : Setting) (listed : List ℕ) (held : ℕ) (course next : Course) (choice : Choice) →
+pub still-held : (setting : Setting) (listed : List ℕ) (held : ℕ) (course next : Course) (choice : Choice) →
     IsTurn setting listed course choice next → course.policy.mode ≡ Hold held → next.policy.mode ≡ Hold held
 still-held setting listed held course next choice is mode =
     ap (λ policy. policy.mode) is.policy
@@ -70,18 +70,18 @@ last-turn setting listed held course next choice ending is turns mode =
 
 pub held-waits : HeldThreadWaits
 held-waits most setting listed race first past course =
-    each-hold setting listed race first (λ course ending. course.policy.mode ≡ Hold race.t1 → Adds race.t1 course.turns ending)
+    each-hold setting listed race first (λ most course ending. course.policy.mode ≡ Hold race.t1 → Adds race.t1 course.turns ending)
     (record {
       spent = λ course mode. adds-none race.t1 course.turns (Ran (told course outcomes.Spent)) refl;
-      diverged = λ course ended mode. adds-none race.t1 course.turns (NotEnforced Diverged course.turns) refl;
-      stuck = λ course none mode. adds-none race.t1 course.turns (NotEnforced Stuck course.turns) refl;
-      over = λ course next choice outcome is.
+      diverged = λ most course ended mode. adds-none race.t1 course.turns (NotEnforced Diverged course.turns) refl;
+      stuck = λ most course none mode. adds-none race.t1 course.turns (NotEnforced Stuck course.turns) refl;
+      over = λ most course next choice outcome is leads.
           last-turn setting listed race.t1 course next choice (held_over next outcome) is (over-turns next outcome);
-      done = λ past course next choice is does.
+      done = λ most past course next choice is leads does.
           last-turn setting listed race.t1 course next choice (Done past next) is refl;
-      repeated = λ course next choice is.
+      repeated = λ most course next choice is.
           last-turn setting listed race.t1 course next choice (NotEnforced Repeats next.turns) is refl;
-      onward = λ course next choice ending is rest mode.
+      onward = λ most course next choice ending is leads rest mode.
           adds-more race.t1 choice.thread course.turns ending (other-thread setting listed race.t1 course next choice is mode)
           (rw is.turns at rest (still-held setting listed race.t1 course next choice is mode));
     }) most past course
@@ -108,16 +108,16 @@ did-now setting listed race first past snapshots course next after choice is doe
 
 pub done-did : DoneDidSecond
 done-did most setting listed race first past snapshots course after =
-    each-hold setting listed race first (λ course ending. ending ≡ Done snapshots after → Did setting race first after)
+    each-hold setting listed race first (λ most course ending. ending ≡ Done snapshots after → Did setting race first after)
     (record {
       spent = λ course same. absurd (let h : ⊥ = cc in h);
-      diverged = λ course ended same. absurd (let h : ⊥ = cc in h);
-      stuck = λ course none same. absurd (let h : ⊥ = cc in h);
-      over = λ course next choice outcome is same. absurd (over-undone next after outcome snapshots same);
-      done = λ past course next choice is does same.
+      diverged = λ most course ended same. absurd (let h : ⊥ = cc in h);
+      stuck = λ most course none same. absurd (let h : ⊥ = cc in h);
+      over = λ most course next choice outcome is leads same. absurd (over-undone next after outcome snapshots same);
+      done = λ most past course next choice is leads does same.
           did-now setting listed race first past snapshots course next after choice is does same;
-      repeated = λ course next choice is same. absurd (let h : ⊥ = cc in h);
-      onward = λ course next choice ending is rest. rest;
+      repeated = λ most course next choice is same. absurd (let h : ⊥ = cc in h);
+      onward = λ most course next choice ending is leads rest. rest;
     }) most past course
 
 -- the only reason that a run's end gives is that it ended
@@ -157,33 +157,33 @@ all-held setting listed held course mode none =
 pub stuck-is_stuck : StuckIsStuck
 stuck-is_stuck most setting listed race first past turns course =
     each-hold setting listed race first
-    (λ course ending. course.policy.mode ≡ Hold race.t1 → ending ≡ NotEnforced Stuck turns →
+    (λ most course ending. course.policy.mode ≡ Hold race.t1 → ending ≡ NotEnforced Stuck turns →
     (there : Course) × (there.turns ≡ turns) × All (λ thread. thread ≡ race.t1) (enabled setting there.state))
     (record {
       spent = λ course mode same. absurd (let h : ⊥ = cc in h);
-      diverged = λ course ended mode same. absurd (let h : ⊥ = cc in h);
-      stuck = λ course none mode same.
+      diverged = λ most course ended mode same. absurd (let h : ⊥ = cc in h);
+      stuck = λ most course none mode same.
           (course, (let here : course.turns ≡ turns = cc in here), all-held setting listed race.t1 course mode none);
-      over = λ course next choice outcome is mode same.
+      over = λ most course next choice outcome is leads mode same.
           let ended = over-ended next outcome Stuck turns same in absurd (let h : ⊥ = cc in h);
-      done = λ past course next choice is does mode same. absurd (let h : ⊥ = cc in h);
-      repeated = λ course next choice is mode same. absurd (let h : ⊥ = cc in h);
-      onward = λ course next choice ending is rest mode.
+      done = λ most past course next choice is leads does mode same. absurd (let h : ⊥ = cc in h);
+      repeated = λ most course next choice is mode same. absurd (let h : ⊥ = cc in h);
+      onward = λ most course next choice ending is leads rest mode.
           rest (still-held setting listed race.t1 course next choice is mode);
     }) most past course
 
 pub diverged-has_ended : DivergedHasEnded
 diverged-has_ended most setting listed race first past turns course =
     each-hold setting listed race first
-    (λ course ending. ending ≡ NotEnforced Diverged turns →
+    (λ most course ending. ending ≡ NotEnforced Diverged turns →
     (there : Course) × (there.turns ≡ turns) × (thread_has_ended (slice_get there.state.threads race.t2) ≡ true))
     (record {
       spent = λ course same. absurd (let h : ⊥ = cc in h);
-      diverged = λ course ended same. (course, (let here : course.turns ≡ turns = cc in here), ended);
-      stuck = λ course none same. absurd (let h : ⊥ = cc in h);
-      over = λ course next choice outcome is same.
+      diverged = λ most course ended same. (course, (let here : course.turns ≡ turns = cc in here), ended);
+      stuck = λ most course none same. absurd (let h : ⊥ = cc in h);
+      over = λ most course next choice outcome is leads same.
           let ended = over-ended next outcome Diverged turns same in absurd (let h : ⊥ = cc in h);
-      done = λ past course next choice is does same. absurd (let h : ⊥ = cc in h);
-      repeated = λ course next choice is same. absurd (let h : ⊥ = cc in h);
-      onward = λ course next choice ending is rest. rest;
+      done = λ most past course next choice is leads does same. absurd (let h : ⊥ = cc in h);
+      repeated = λ most course next choice is same. absurd (let h : ⊥ = cc in h);
+      onward = λ most course next choice ending is leads rest. rest;
     }) most past course

@@ -9,8 +9,10 @@ pub mod IrLists
 pub mod IrNumbers
 pub mod IrRunnable
 pub mod IrTables
+pub mod JobReplays
 pub mod JobResults
 pub mod Layouts
+pub mod Leading
 pub mod Literals
 pub mod Moments
 pub mod NotEnabled
@@ -19,10 +21,13 @@ pub mod Points
 pub mod RaceReached
 pub mod Readings
 pub mod Refusals
+pub mod Released
 pub mod Replays
+pub mod RunReturns
 pub mod SeenPairs
 pub mod Sigils
 pub mod Spellings
 pub mod Tested
 pub mod Tokens
 pub mod Unread
+pub mod Waiting

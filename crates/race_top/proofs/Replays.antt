@@ -17,7 +17,7 @@ use Rattle.machine_model.specs.Turn.{turn}
 abbrev pub Begins : List ℕ → List ℕ → Type 0
 Begins front whole = (rest : List ℕ) × (whole ≡ front ++ rest)
 
-Begins-itself : (front : List ℕ) → Begins front front
+pub Begins-itself : (front : List ℕ) → Begins front front
 Begins-itself front = ([], sym (append-nil front))
 
 Begins-less : (front : List ℕ) (thread : ℕ) (whole : List ℕ) → Begins (front ++ thread ∷ []) whole → Begins front whole
@@ -84,7 +84,7 @@ pub mode-stays : (policy : Policy) → Follows policy → mode_after policy.mode
 mode-stays policy follows = rw follows refl
 
 -- the same course with another chooser
-abbrev chosen_by : Policy → Course → Course
+abbrev pub chosen_by : Policy → Course → Course
 chosen_by policy course = record course { policy = policy }
 
 -- from here on the runs are the same, where the list goes on as the first one does

@@ -23,6 +23,7 @@ pub mod IrRead
 pub mod IrScope
 pub mod IrSpelling
 pub mod IrTable
+pub mod JobReplays
 pub mod OrderEnforcer
 pub mod OrderEnforcerLaws
 pub mod Past

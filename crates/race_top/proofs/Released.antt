@@ -1,0 +1,142 @@
+-- A thread that is held with an access pending can be chosen as long as the others take turns.
+use Rattle.std.proofs.Common.{◌≡◌, ℕ, zero, suc, Bool, true, false, cond, eqb, not, ◌&&◌, List, [], ◌∷◌, filter, length, Option, Some, None, refl, ap, ◌∙◌, arith, zero-add}
+use Rattle.std.specs.Prelude.{Contains, slice_get}
+use Rattle.std.specs.List.{range_with_len}
+use Rattle.std.proofs.lemmas.List.Elements.{All-contains, filter_passes}
+use Rattle.std.proofs.lemmas.List.FromFn.{get_or-range_with_len, length-range_with_len}
+use Rattle.std.proofs.lemmas.Option.{slice_get_within}
+use Rattle.ir_types.specs.declared.instruction.Inst.{Inst}
+use Rattle.ir_types.specs.declared.instruction.Inst.TheVariants.{Load, Store}
+use Rattle.ir_types.specs.declared.instruction.Site.{Site}
+use Rattle.machine_model.specs.declared.state.Frame.{Frame}
+use Rattle.machine_model.specs.declared.state.Operation.{Operation}
+use Rattle.machine_model.specs.declared.state.Operation.TheVariants.{Start, At, CondReturn, Nothing}
+use Rattle.machine_model.specs.declared.state.State.{State}
+use Rattle.machine_model.specs.declared.state.Thread.{Thread}
+use Rattle.machine_model.specs.Access.{Access, access_of, pending, pending_in, pending_inst, pending_of, pending_operation, pending_placed}
+use Rattle.machine_model.specs.Code.{Placed, next_in}
+use Rattle.machine_model.specs.Enabled.{enabled, is_enabled, may_run, waits, waits_at, waits_for, waits_in}
+use Rattle.machine_model.specs.Moment.{Moment, access_at}
+use Rattle.machine_model.specs.Setting.{Setting}
+use Rattle.machine_model.specs.Thread.{has_ended, top}
+use Rattle.machine_model.proofs.Choices.{Contains-later}
+use Rattle.race_top.proofs.Waiting.{Keeps}
+
+-- the thread of this number has not ended, and its operation never has to wait
+pub record Ready (setting : Setting) (threads : List Thread) (number : ℕ) : Type 0 where
+  pub thread : Thread
+  pub is : slice_get threads number ≡ Some thread
+  pub lasts : has_ended thread ≡ false
+  pub runs : (state : State) → waits setting state thread thread.pending ≡ false
+
+-- an access never has to wait
+inst-runs : (state : State) (site : Site) (decided : List ℕ) (inst : Inst) (access : Access) →
+    access_of (pending_inst site decided inst) ≡ Some access → waits_for state decided inst ≡ false
+unfolding waits_for
+inst-runs state site decided (Load to kind at) access is = refl
+inst-runs state site decided (Store kind value at) access is = refl
+inst-runs state site decided inst access is = absurd (let h : ⊥ = cc in h)
+
+placed-runs : (state : State) (site : Site) (decided : List ℕ) (placed : Option Placed) (access : Access) →
+    access_of (pending_placed site decided placed) ≡ Some access → waits_at state decided placed ≡ false
+placed-runs state site decided None access is = refl
+placed-runs state site decided (Some placed) access is = inst-runs state site decided placed.inst access is
+
+frame-runs : (setting : Setting) (state : State) (site : Site) (decided : List ℕ) (frame : Option Frame) (access : Access) →
+    access_of (pending_in setting.code site decided frame) ≡ Some access → waits_in setting state decided frame ≡ false
+frame-runs setting state site decided None access is = refl
+frame-runs setting state site decided (Some frame) access is =
+    placed-runs state site decided (next_in setting.code frame) access is
+
+access-runs : (setting : Setting) (state : State) (thread : Thread) (operation : Operation) (access : Access) →
+    access_of (pending_operation setting.code thread operation) ≡ Some access → waits setting state thread operation ≡ false
+unfolding waits pending_operation
+access-runs setting state thread Start access is = refl
+access-runs setting state thread (At site decided) access is = frame-runs setting state site decided (top thread) access is
+access-runs setting state thread (CondReturn site decided) access is = refl
+access-runs setting state thread Nothing access is = refl
+
+-- what waits is what the thread's frames say
+joined-alike : (setting : Setting) (state : State) (thread : Thread) (joined : Bool) (operation : Operation) →
+    waits setting state (record thread { joined = joined }) operation ≡ waits setting state thread operation
+unfolding waits
+joined-alike setting state thread joined Start = refl
+joined-alike setting state thread joined (At site decided) = refl
+joined-alike setting state thread joined (CondReturn site decided) = refl
+joined-alike setting state thread joined Nothing = refl
+
+pub ready-kept : (setting : Setting) (number : ℕ) (before after : List Thread) → Keeps number before after →
+    Ready setting before number → Ready setting after number
+ready-kept setting number before after keeps ready =
+    let kept = keeps ready.thread ready.is in
+    record {
+      thread = record ready.thread { joined = kept.0 };
+      is = kept.1;
+      lasts = ready.lasts;
+      runs = λ state. joined-alike setting state ready.thread kept.0 ready.thread.pending ∙ ready.runs state;
+    }
+
+-- what passes is kept
+Contains-filtered : (test : ℕ → Bool) (threads : List ℕ) (thread : ℕ) → Contains threads thread → test thread ≡ true →
+    Contains (filter test threads) thread
+Contains-filtered test [] thread among passes = absurd (omega (arith, among.1))
+Contains-filtered test (first ∷ others) thread (zero, within, is) passes = rw (ap test is ∙ passes) (0, omega arith, is)
+Contains-filtered test (first ∷ others) thread (suc place, within, is) passes =
+    go (test first) (Contains-filtered test others thread (place, omega arith, is) passes)
+  where
+    go : (kept : Bool) → Contains (filter test others) thread →
+        Contains (cond kept (first ∷ filter test others) (filter test others)) thread
+    go true later = Contains-later first (filter test others) thread later
+    go false later = later
+
+-- so it is one of the enabled threads
+pub ready-enabled : (setting : Setting) (state : State) (number : ℕ) → Ready setting state.threads number →
+    Contains (enabled setting state) number
+unfolding enabled is_enabled
+ready-enabled setting state number ready =
+    let count = length state.threads in
+    let within = slice_get_within state.threads number ready.thread ready.is in
+    let long = length-range_with_len 0 count in
+    let passes : may_run setting state (slice_get state.threads number) ≡ true =
+    rw (ready.is, ready.lasts, ready.runs state) refl in
+    Contains-filtered (is_enabled setting state) (range_with_len 0 count) number
+    (number, omega (arith, within, long), get_or-range_with_len 0 count number number within ∙ zero-add number) passes
+
+not-ended : (over waits : Bool) → (not over && not waits) ≡ true → over ≡ false
+not-ended true waits is = absurd (let h : ⊥ = cc in h)
+not-ended false waits is = refl
+
+-- a thread that may run, with an access pending, is ready
+access-ready : (setting : Setting) (state : State) (number : ℕ) (access : Access) (thread : Option Thread) →
+    slice_get state.threads number ≡ thread → may_run setting state thread ≡ true →
+    access_of (pending_of setting.code thread) ≡ Some access → Ready setting state.threads number
+access-ready setting state number access None is runs accesses = absurd (let h : ⊥ = cc in h)
+access-ready setting state number access (Some thread) is runs accesses = record {
+  thread = thread;
+  is = is;
+  lasts = not-ended (has_ended thread) (waits setting state thread thread.pending) runs;
+  runs = λ other. access-runs setting other thread thread.pending access accesses;
+}
+
+accesses-unless : (spent : Bool) (found : Option Access) (access : Access) → cond spent None found ≡ Some access →
+    found ≡ Some access
+accesses-unless true found access is = absurd (let h : ⊥ = cc in h)
+accesses-unless false found access is = is
+
+may-run : (setting : Setting) (state : State) (number : ℕ) → Contains (enabled setting state) number →
+    may_run setting state (slice_get state.threads number) ≡ true
+unfolding enabled is_enabled
+may-run setting state number among =
+    let threads = range_with_len 0 (length state.threads) in
+    All-contains (λ thread. is_enabled setting state thread ≡ true) (filter (is_enabled setting state) threads) number
+    (filter_passes (is_enabled setting state) threads) among
+
+-- so is the thread of a turn that does an access
+pub moment-ready : (setting : Setting) (moment : Moment) (access : Access) →
+    Contains (enabled setting moment.before.state) moment.thread → access_at setting moment ≡ Some access →
+    Ready setting moment.before.state.threads moment.thread
+moment-ready setting moment access among accesses =
+    let state = moment.before.state in
+    access-ready setting state moment.thread access (slice_get state.threads moment.thread) refl
+    (may-run setting state moment.thread among)
+    (accesses-unless (eqb moment.before.left 0) (access_of (pending setting.code state moment.thread)) access accesses)
