@@ -26,6 +26,3 @@ mod watch;
 
 pub use error::CaseError;
 pub use read::read_case;
-
-#[cfg(test)]
-mod tests;

@@ -39,6 +39,3 @@ mod waiting;
 pub use machine::Machine;
 pub use machine_model::{Pending, TurnEnd};
 pub use waiting::Waiting;
-
-#[cfg(test)]
-mod tests;

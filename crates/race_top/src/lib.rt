@@ -43,6 +43,3 @@ pub use file::File;
 pub use refusal::Refusal;
 pub use status::{NO_MEMORY, READ_FAILED, REFUSED, USAGE, WHOLE, WRITE_FAILED};
 pub use top::run;
-
-#[cfg(test)]
-mod tests;

@@ -18,6 +18,3 @@ mod verdict;
 pub use reduction::reduce;
 pub use result::{JobKind, JobResult, Judged};
 pub use verdict::{HarmlessRun, Verdict};
-
-#[cfg(test)]
-mod tests;

@@ -19,6 +19,3 @@ mod turns;
 
 pub use replay::print_replay;
 pub use report::{RaceReport, print_report};
-
-#[cfg(test)]
-mod tests;

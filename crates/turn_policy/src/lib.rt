@@ -8,6 +8,3 @@ mod follow;
 mod policy;
 
 pub use policy::Policy;
-
-#[cfg(test)]
-mod tests;
