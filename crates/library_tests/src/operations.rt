@@ -1,8 +1,6 @@
 //! Values at the edges of each width, worked out by the rules of the LLVM Language Reference.
 
-use ir_types::{
-    BinOp, CmpOp, ConvOp, Kind, OpTrap, Width, Word, binary, compare, convert,
-};
+use ir_types::{BinOp, CmpOp, ConvOp, Kind, OpTrap, Width, Word, binary, compare, convert};
 
 const LEAST: u64 = 1 << 63;
 

@@ -8,7 +8,7 @@ use Rattle.case_text.specs.Fault.{CaseFault}
 use Rattle.race_top.specs.declared.refusal.Refusal.{Refusal}
 use Rattle.race_top.specs.declared.refusal.Refusal.TheVariants.{ModuleUnsupported, ModuleBadShape, CaseSyntax, CaseRange, CaseSite, CaseSlot, ReplayTurnNotEnabled, ReplayEndsEarly, ReplaySpent, RaceRange, RaceSameThread, RaceNotWatched, RaceNoConflict}
 use Rattle.race_top.specs.CheckRace.{RaceFault}
-use Rattle.race_top.specs.IrCheck.{ModuleFault}
+use Rattle.ir_check.specs.Check.{ModuleFault}
 use Rattle.race_top.specs.TraceReplay.{ReplayFault}
 
 -- the tests come one after the other, and the first that fails is answered

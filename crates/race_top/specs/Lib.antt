@@ -12,17 +12,6 @@ pub mod Files
 pub mod Evidence
 pub mod FirstRefusal
 pub mod HoldTurn
-pub mod IrBuild
-pub mod IrCheck
-pub mod IrLayout
-pub mod IrLex
-pub mod IrLexLaws
-pub mod IrNames
-pub mod IrNumber
-pub mod IrRead
-pub mod IrScope
-pub mod IrSpelling
-pub mod IrTable
 pub mod JobReplays
 pub mod OrderEnforcer
 pub mod OrderEnforcerLaws

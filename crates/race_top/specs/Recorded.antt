@@ -8,8 +8,8 @@ use Rattle.case_text.specs.Read.{case_of}
 use Rattle.race_top.specs.declared.recorded.Recorded.{Recorded}
 use Rattle.race_top.specs.declared.refusal.Refusal.{Refusal}
 use Rattle.race_top.specs.FirstRefusal.{◌>>=◌, case_or_refusal, module_or_refusal, run_or_refusal}
-use Rattle.race_top.specs.IrCheck.{module_of}
-use Rattle.race_top.specs.IrRead.{lines_of}
+use Rattle.ir_check.specs.Check.{module_of}
+use Rattle.ir_read.specs.Line.{lines_of}
 use Rattle.race_top.specs.TraceReplay.{replay_fault}
 
 -- the module of a text

@@ -2,8 +2,8 @@
 use Rattle.std.specs.Prelude.{ℕ}
 use Rattle.case_text.specs.declared.error.CaseError.{CaseError}
 use Rattle.case_text.specs.declared.error.CaseError.TheVariants as case_errors
-use Rattle.race_top.specs.declared.ir_check.ModuleError.{ModuleError}
-use Rattle.race_top.specs.declared.ir_check.ModuleError.TheVariants as module_errors
+use Rattle.ir_check.specs.declared.check.ModuleError.{ModuleError}
+use Rattle.ir_check.specs.declared.check.ModuleError.TheVariants as module_errors
 use Rattle.race_top.specs.declared.refusal.Refusal.TheVariants.{ModuleUnsupported, ModuleBadShape, CaseSyntax, CaseRange, CaseSite, CaseSlot, ReplayTurnNotEnabled, ReplayEndsEarly, ReplaySpent, RaceRange, RaceSameThread, RaceNotWatched, RaceNoConflict}
 use Rattle.race_top.specs.declared.stop.Stop.{Stop}
 use Rattle.race_top.specs.declared.stop.Stop.TheVariants.{Refused, NoMemory}

@@ -10,7 +10,6 @@
 //!
 //! What `answer` stands on, in the order of the data:
 //!
-//! - `ir_lex`, `ir_read`, `ir_check`: the tokens of a module's lines, their forms, and the checked module
 //! - `access`: accesses of memory that are turns of their own
 //! - `course`: a run so far, turn by turn, of a machine and a chooser
 //! - `trace_replay`: the recorded run
@@ -25,9 +24,6 @@ mod command;
 mod course;
 mod file;
 mod files;
-mod ir_check;
-mod ir_lex;
-mod ir_read;
 pub mod laws;
 mod order_enforcer;
 mod races;

@@ -8,11 +8,11 @@ ghost use Rattle.race_top.specs.Recorded.{CaseOf, ModuleOf, RecordedOf, Replayed
 
 use crate::file::File;
 use crate::files::Files;
-use crate::ir_check::check_module;
-use crate::ir_read::read_lines;
 use crate::stop::Stop;
 use crate::trace_replay::replay;
 use case_text::read_case;
+use ir_check::check_module;
+use ir_read::read_lines;
 use ir_types::Module;
 use machine_model::{Case, Run};
 use std::alloc::Global;

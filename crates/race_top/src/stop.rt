@@ -2,10 +2,10 @@
 
 ghost use Rattle.std.specs.Prelude.{◌≡◌};
 
-use crate::ir_check::ModuleError;
 use crate::refusal::Refusal;
 use crate::trace_replay::{RaceError, ReplayError};
 use case_text::CaseError;
+use ir_check::ModuleError;
 use rc_base::NoMemory;
 
 /// Why there is no text to write.

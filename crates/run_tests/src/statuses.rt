@@ -49,7 +49,11 @@ fn a_write_that_fails_leaves_a_front(rt: HostRuntime) -> Result<(), Fail> {
             out.fail(call)?;
             let status = answer(&rt, rt.alloc(), line, &mut shelf, &mut out)?;
             let length = text.len().min(call as usize * 10);
-            let wanted = if length < text.len() { WRITE_FAILED } else { WHOLE };
+            let wanted = if length < text.len() {
+                WRITE_FAILED
+            } else {
+                WHOLE
+            };
             assert_eq!(rt; status, wanted, "write {call}");
             assert_eq!(rt; out.bytes(), &text[..length], "write {call}");
         }

@@ -1,0 +1,5 @@
+mod Builds
+mod Lists
+mod Numbers
+mod Runnable
+mod Tables

@@ -1,0 +1,10 @@
+use Rattle.std.proofs.Common.{subst, sym}
+use Rattle.ir_types.specs.declared.«module».Module.{Module}
+use Rattle.machine_model.specs.Runnable.{IsRunnable}
+use Rattle.ir_check.proofs.Runnable.{built_runnable}
+use Rattle.ir_check.proofs.check.check_module.Goals as goal
+
+pub returns-clause-runnable : goal.returns-clause-runnable
+returns-clause-runnable c =
+    let P : Module → Type 0 = λ found. IsRunnable found in
+    subst P (sym c.in_ok-found.ensures) (built_runnable c.args.lines.now c.requires)

@@ -1,0 +1,7 @@
+pub mod Build
+pub mod Check
+pub mod Layout
+pub mod Names
+pub mod Number
+pub mod Scope
+pub mod Table

@@ -1,0 +1,5 @@
+mod Lines
+mod Decimals
+mod Readings
+mod Sigils
+mod Spellings
