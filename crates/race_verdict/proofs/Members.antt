@@ -36,6 +36,13 @@ Contains-filtered test (first ∷ rest) one (suc place, within, is) passes =
     go true later = Contains-later first (filter test rest) one later
     go false later = later
 
+pub Contains-mapped : {A B : Type 0} (make : A → B) (list : List A) (one : A) → Contains list one →
+    Contains (map make list) (make one)
+Contains-mapped make [] one among = absurd (omega (arith, among.1))
+Contains-mapped make (first ∷ rest) one (zero, within, is) = (0, omega arith, ap make is)
+Contains-mapped make (first ∷ rest) one (suc place, within, is) =
+    Contains-later (make first) (map make rest) (make one) (Contains-mapped make rest one (place, omega arith, is))
+
 -- the member that a value was made from
 abbrev pub Source : {A B : Type 0} → (A → B) → List A → B → Type 0
 Source {A} make list value = (one : A) × Contains list one × (make one ≡ value)

@@ -1,13 +1,14 @@
 -- What holds of the verdict of every list of results.
-use Rattle.std.specs.Prelude.{◌≡◌, ◌≢◌, ◌↔◌, ℕ, ◌<◌, List, [], ◌∷◌, ◌++◌, All, Contains, Option, Some, None, IsSome}
+use Rattle.std.specs.Prelude.{◌≡◌, ◌≢◌, ◌↔◌, ℕ, ◌<◌, List, [], ◌∷◌, ◌++◌, All, Contains, Option, Some, None, IsSome, IsTrue}
 use Rattle.machine_model.specs.declared.run.Reason.{Reason}
-use Rattle.race_verdict.specs.declared.result.JobKind.TheVariants.{Not}
+use Rattle.machine_model.specs.declared.run.Run.{Run}
+use Rattle.race_verdict.specs.declared.result.JobKind.TheVariants.{Ran, Not}
 use Rattle.race_verdict.specs.declared.result.JobResult.{JobResult}
 use Rattle.race_verdict.specs.declared.verdict.HarmlessRun.{HarmlessRun}
 use Rattle.race_verdict.specs.declared.verdict.Verdict.{Verdict}
 use Rattle.race_verdict.specs.declared.verdict.Verdict.TheVariants.{SpecViolated, SingleOrdering, OutputDiffers, Unresolved, Harmless}
 use Rattle.race_verdict.specs.Results.{AreResults, IsBefore, IsRan}
-use Rattle.race_verdict.specs.Verdict.{VerdictOf, counted, difference, harmless, reason_of, spending, violation}
+use Rattle.race_verdict.specs.Verdict.{VerdictOf, counted, difference, exits, harmless, reason_of, spending, violation}
 
 -- the value is the answer of a result before which no result gives one
 pub record IsFirst {A : Type 0} (answer : JobResult → Option A) (results : List JobResult) (value : A) : Type 0 where
@@ -112,7 +113,16 @@ HarmlessOnly =
     IsEnforced results × NoneGives (difference results) results × NoneGives spending results
     × AreHarmlessRuns results runs
 
--- and then a run shows it
+-- and then each alternate that exits stands among the runs, or repeats the input and the turns of one there
+abbrev pub AlternatesAreListed : Type 0
+AlternatesAreListed =
+    (paths schedules : ℕ) (results : List JobResult) (runs : List HarmlessRun) → AreResults paths schedules results →
+    VerdictOf results ≡ Harmless runs →
+    (alternate : JobResult) (run : Run) → Contains results alternate → 0 < alternate.schedule →
+    alternate.kind ≡ Ran run → IsTrue (exits run.outcome) →
+    (listed : HarmlessRun) × Contains runs listed × (listed.input ≡ alternate.input) × (listed.turns ≡ run.turns)
+
+-- and a run shows it
 abbrev pub HarmlessHasRuns : Type 0
 HarmlessHasRuns =
     (paths schedules : ℕ) (results : List JobResult) (runs : List HarmlessRun) → AreResults paths schedules results →

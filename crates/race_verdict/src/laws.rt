@@ -1,6 +1,6 @@
 //! Which class comes when. No function here does anything; each one's contract is a theorem.
 
-ghost use Rattle.race_verdict.specs.VerdictLaws.{CountedIsLeast, DiffersExactly, FirstIsLeast, HarmlessHasRuns, HarmlessOnly, SingleExactly, SingleIsOfPath, UnresolvedExactly, ViolatedExactly, ViolationIsFound};
+ghost use Rattle.race_verdict.specs.VerdictLaws.{AlternatesAreListed, CountedIsLeast, DiffersExactly, FirstIsLeast, HarmlessHasRuns, HarmlessOnly, SingleExactly, SingleIsOfPath, UnresolvedExactly, ViolatedExactly, ViolationIsFound};
 
 /// A race violates the specification where a job does that counts: by the first one.
 pub fn violation_comes_first()
@@ -20,10 +20,11 @@ pub fn difference_comes_before_spent_jobs()
     ensures unresolved { UnresolvedExactly }
 {}
 
-/// Else a race is harmless, with the runs that show it: at least one, and no two with one input and one list of
-/// turns.
+/// Else a race is harmless, with the runs that show it: at least one, no two with one input and one list of turns,
+/// and each alternate that exits is one of them or repeats one.
 pub fn harmless_is_the_rest()
     ensures only { HarmlessOnly }
+    ensures listed { AlternatesAreListed }
     ensures runs { HarmlessHasRuns }
 {}
 
