@@ -1,5 +1,5 @@
 -- What a visible instruction does, by its kind, and what is cut.
-use Rattle.std.proofs.Common.{◌≡◌, ℕ, ◌≤◌, true, false, cond, leb, List, map, Option, Some, None, ◌-◌, ◌++◌, length, refl, sym, ap, ◌∙◌, subst, arith}
+use Rattle.std.proofs.Common.{◌≡◌, ℕ, ◌≤◌, true, false, cond, leb, List, [], map, Option, Some, None, ◌-◌, ◌++◌, length, refl, sym, ap, ◌∙◌, subst, arith}
 use Rattle.std.specs.Prelude.{slice_get}
 use Rattle.std.proofs.lemmas.Bool.{le-leb}
 use Rattle.ir_types.specs.declared.external.Extern.{Extern}
@@ -16,12 +16,13 @@ use Rattle.machine_model.specs.Code.{Placed}
 use Rattle.machine_model.specs.Call.{call_of, is_blocked}
 use Rattle.machine_model.specs.Decision.{outcomes_of}
 use Rattle.machine_model.specs.Effect.{Effect, mapped}
-use Rattle.machine_model.specs.Effect.Effect.{Done, Exits, Traps, Blocks}
+use Rattle.machine_model.specs.Effect.Effect.{Done, Exits, Traps, Blocks, NoRow}
 use Rattle.machine_model.specs.Instruction.{effect_of}
 use Rattle.machine_model.specs.Operation.{charged_for_items, footprint_of, put_back, returned, visible_effect}
 use Rattle.machine_model.specs.Setting.{Setting}
 use Rattle.machine_model.specs.Thread.{top, value_of}
-use Rattle.machine_model.specs.Turn.{Move, charged, operated_at, operated_in, stops}
+use Rattle.machine_model.specs.Step.{first_step_at, first_step_in}
+use Rattle.machine_model.specs.Turn.{Move, charged, paid, stops}
 use Rattle.concrete_machine.specs.declared.operation.Action.{Action}
 use Rattle.concrete_machine.specs.Call.{frames_of, items_of_call}
 use Rattle.concrete_machine.specs.Code.{next_at, next_of}
@@ -59,6 +60,7 @@ charged_none before left decided site (Exits more status after) none =
 charged_none before left decided site (Traps trap) none =
     let spent : left ≡ 0 = omega arith in rw spent refl
 charged_none before left decided site Blocks none = refl
+charged_none before left decided site NoRow none = refl
 
 -- where no more is left than an instruction prints it is cut
 pub charged_short : (setting : Setting) (state : State) (number left : ℕ) (thread : Thread) (frame : Frame) (outcomes decided : List ℕ)
@@ -106,30 +108,31 @@ is_top_kept (Some thread) None frame same is =
 is_top_kept (Some thread) (Some after) frame same is =
     ap (λ (frames : List Frame). slice_get frames (length frames - 1)) same ∙ is
 
-moves_at : (setting : Setting) (before : State) (number left : ℕ) (thread : Thread) (places more numbers : List ℕ)
+moves_at : (setting : Setting) (before : State) (number left : ℕ) (thread : Thread) (addresses more numbers : List ℕ)
     (placed : Placed) (move : Move State) (found : Option Frame) → next_at setting.code found ≡ Some placed →
     ((frame : Frame) → found ≡ Some frame → more ≡ outcomes_of setting.code before.objects frame placed.inst) →
-    numbers ≡ places ++ more →
+    numbers ≡ addresses ++ more →
     ((frame : Frame) → found ≡ Some frame →
     charged before left more placed.site (visible_effect setting before number thread frame numbers placed.inst) ≡ move) →
-    operated_in setting before number left thread places found ≡ move
-moves_at setting before number left thread places more numbers placed move None next outcomes all moves =
+    paid before left [] (first_step_in setting before number thread addresses found) ≡ move
+unfolding paid
+moves_at setting before number left thread addresses more numbers placed move None next outcomes all moves =
     absurd (let h : ⊥ = cc in h)
-moves_at setting before number left thread places more numbers placed move (Some frame) next outcomes all moves =
-    ap (operated_at setting before number left thread places frame) next
+moves_at setting before number left thread addresses more numbers placed move (Some frame) next outcomes all moves =
+    ap (λ found. paid before left [] (first_step_at setting before number thread addresses frame found)) next
     ∙ ap (λ others. charged before left others placed.site
-    (visible_effect setting before number thread frame (places ++ others) placed.inst)) (sym (outcomes frame refl))
+    (visible_effect setting before number thread frame (addresses ++ others) placed.inst)) (sym (outcomes frame refl))
     ∙ ap (λ others. charged before left more placed.site
     (visible_effect setting before number thread frame others placed.inst)) (sym all)
     ∙ moves frame refl
 
 -- what the pending instruction did
-pub moves_pending : (setting : Setting) (before : State) (number left : ℕ) (thread : Thread) (places more numbers : List ℕ)
+pub moves_pending : (setting : Setting) (before : State) (number left : ℕ) (thread : Thread) (addresses more numbers : List ℕ)
     (placed : Placed) (move : Move State) → next_of setting.code thread ≡ Some placed →
     ((frame : Frame) → top thread ≡ Some frame → more ≡ outcomes_of setting.code before.objects frame placed.inst) →
-    numbers ≡ places ++ more →
+    numbers ≡ addresses ++ more →
     ((frame : Frame) → top thread ≡ Some frame →
     charged before left more placed.site (visible_effect setting before number thread frame numbers placed.inst) ≡ move) →
-    operated_in setting before number left thread places (top thread) ≡ move
-moves_pending setting before number left thread places more numbers placed move next outcomes all moves =
-    moves_at setting before number left thread places more numbers placed move (top thread) next outcomes all moves
+    paid before left [] (first_step_in setting before number thread addresses (top thread)) ≡ move
+moves_pending setting before number left thread addresses more numbers placed move next outcomes all moves =
+    moves_at setting before number left thread addresses more numbers placed move (top thread) next outcomes all moves

@@ -9,7 +9,7 @@ use Rattle.machine_model.specs.declared.state.Thread.{Thread}
 use Rattle.machine_model.specs.declared.trap.Trap.{Trap}
 use Rattle.machine_model.specs.Call.{Returned, result_of}
 use Rattle.machine_model.specs.Effect.{Effect}
-use Rattle.machine_model.specs.Effect.Effect.{Done, Traps, Blocks}
+use Rattle.machine_model.specs.Effect.Effect.{Done, Traps, NoRow}
 use Rattle.machine_model.specs.Memory.{written}
 use Rattle.concrete_machine.specs.declared.call.Called.{Called}
 use Rattle.concrete_machine.specs.declared.call.Called.TheVariants as calls
@@ -19,13 +19,13 @@ abbrev pub Calls : Called → State → State → Effect Returned → Type 0
 Calls (calls.Returns result item) before after effect =
     effect ≡ Done 0 (record { state = after; result = result; items = option_to_list item })
 Calls (calls.Traps trap) before after effect = (effect ≡ Traps trap) × (after ≡ before)
-Calls calls.Blocks before after effect = (effect ≡ Blocks) × (after ≡ before)
+Calls calls.NoRow before after effect = (effect ≡ NoRow) × (after ≡ before)
 
 -- how many items a call printed
 abbrev pub Prints : ℕ → Called → Type 0
 Prints count (calls.Returns result item) = length (option_to_list item) ≡ count
 Prints count (calls.Traps trap) = Unit {0}
-Prints count calls.Blocks = Unit {0}
+Prints count calls.NoRow = Unit {0}
 
 abbrev pub frames_of : Option Thread → List Frame
 frames_of None = []

@@ -6,7 +6,7 @@ use Rattle.machine_model.specs.declared.state.Frame.{Frame}
 use Rattle.machine_model.specs.declared.state.State.{State}
 use Rattle.machine_model.specs.declared.state.Thread.{Thread}
 use Rattle.machine_model.specs.Effect.{Effect}
-use Rattle.machine_model.specs.Effect.Effect.{Done, Exits, Traps, Blocks}
+use Rattle.machine_model.specs.Effect.Effect.{Done, Exits, Traps, Blocks, NoRow}
 use Rattle.machine_model.specs.Thread.{top}
 use Rattle.concrete_machine.specs.declared.operation.Action.{Action}
 use Rattle.concrete_machine.specs.declared.operation.Action.TheVariants as actions
@@ -19,6 +19,7 @@ Acts actions.Done more before after effect = effect ≡ Done more after
 Acts (actions.Exits status) more before after effect = effect ≡ Exits more status after
 Acts (actions.Traps trap) more before after effect = (effect ≡ Traps trap) × (after ≡ before)
 Acts actions.Blocks more before after effect = (effect ≡ Blocks) × (after ≡ before)
+Acts actions.NoRow more before after effect = (effect ≡ NoRow) × (after ≡ before)
 
 -- how many items an instruction prints
 abbrev pub items_of : Inst → ℕ

@@ -2,8 +2,9 @@
 
 ghost use Rattle.std.specs.Prelude.{◌≡◌, ℕ, IfOk, IfSome, IsSome, List as Sequence, OnOk, Some};
 ghost use Rattle.machine_model.specs.Instruction.{effect_of};
+ghost use Rattle.machine_model.specs.Step.{next_step};
 ghost use Rattle.machine_model.specs.Thread.{top};
-ghost use Rattle.machine_model.specs.Turn.{charged, moved, ran_on};
+ghost use Rattle.machine_model.specs.Turn.{charged, paid, ran_on};
 ghost use Rattle.concrete_machine.specs.Advance.{moved_to};
 ghost use Rattle.concrete_machine.specs.Effect.{footprint};
 ghost use Rattle.concrete_machine.specs.Frame.{HasNext};
@@ -13,7 +14,7 @@ ghost use Rattle.machine_model.specs.Runnable.{IsRunnable};
 use crate::code::{Placed, next_in};
 use crate::effect::{Effect, apply};
 use crate::frame::top;
-use crate::operand::{decide_outcomes, decide_places};
+use crate::operand::{decide_addresses, decide_outcomes};
 use crate::setting::Setting;
 use crate::visible::is_visible;
 use ir_types::{List, Site};
@@ -62,13 +63,13 @@ fn run_one(
             *left -= 1;
             Some(TurnEnd::Trap(trap, placed.site))
         }
-        Effect::Blocks => Some(TurnEnd::Spent),
+        Effect::NoRow => Some(TurnEnd::Spent),
     }
 }
 
 /// Runs the next instruction of a thread if it is invisible, and makes it pending if it is visible. Answers
 /// how the turn has ended, if it has.
-#[tactic(auto, unfolding(machine_model::specs::Turn::moved))]
+#[tactic(auto, unfolding(machine_model::specs::Turn::paid, machine_model::specs::Step::next_step))]
 fn step(
     setting: &Setting<'_>,
     thread: &mut Thread,
@@ -78,7 +79,8 @@ fn step(
 ) -> Result<Option<TurnEnd>, NoMemory>
     requires { IsRunnable setting.now.code }
     ensures { IfOk result (λ end. (number : ℕ) →
-        moved setting.now number (footprint thread.old objects.old) left.old decided.old.items
+        paid (footprint thread.old objects.old) left.old decided.old.items
+        (next_step setting.now number (footprint thread.old objects.old))
         ≡ moved_to end (footprint thread.new objects.new) left.new decided.new.items) }
 {
     let Some(frame) = top(thread) else {
@@ -88,7 +90,7 @@ fn step(
         return Ok(Some(TurnEnd::Spent));
     };
     let before = decided.len();
-    decide_places(frame, placed.inst, decided)?;
+    decide_addresses(frame, placed.inst, decided)?;
     if is_visible(setting.watch, thread, placed.site, placed.inst) {
         wait_at(
             *decided.allocator(),

@@ -30,7 +30,8 @@ pub enum Called {
         item: Option<OutItem>,
     },
     Traps(Trap),
-    Blocks,
+    /// There is no row for it.
+    NoRow,
 }
 
 /// Whether the thread was made, and neither has ended nor was joined.
@@ -182,7 +183,7 @@ fn print(byte: u8) -> Called
 }
 
 /// Does a call that is not blocked, its numbers decided. What it prints is not yet in the output. What traps
-/// or blocks changes nothing.
+/// or has no row changes nothing.
 #[tactic(auto, unfolding(machine_model::specs::Call::call_of))]
 pub fn call(
     alloc: Global,
@@ -209,6 +210,6 @@ pub fn call(
         }
         Extern::Join => Ok(join(state, place, number_at(decided, 1))),
         Extern::Putchar => Ok(print((number_at(arguments, 0) % 256) as u8)),
-        _ => Ok(Called::Blocks),
+        _ => Ok(Called::NoRow),
     }
 }

@@ -23,7 +23,8 @@ use machine_model::{Frame, Object, Thread, Trap};
 pub enum Effect {
     Done,
     Traps(Trap),
-    Blocks,
+    /// There is no row for it.
+    NoRow,
 }
 
 fn trap_of(trap: OpTrap) -> Trap
@@ -88,7 +89,7 @@ fn store(thread: &mut Thread, objects: &mut [Object], kind: Kind, value: Operand
     }
 }
 
-/// Does an instruction of the frame that runs, its numbers decided. What traps or blocks changes nothing.
+/// Does an instruction of the frame that runs, its numbers decided. What traps or has no row changes nothing.
 #[tactic(auto, unfolding(machine_model::specs::Instruction::effect_of))]
 pub fn apply(
     setting: &Setting<'_>,
@@ -109,6 +110,6 @@ pub fn apply(
         Inst::Store { kind, value, .. } => {
             store(thread, objects, *kind, *value, number_at(decided, 0))
         }
-        _ => Effect::Blocks,
+        _ => Effect::NoRow,
     }
 }

@@ -1,7 +1,7 @@
 //! The numbers of operands, and the numbers that an instruction decides.
 
 ghost use Rattle.std.specs.Prelude.{◌≡◌, ◌++◌, OnOk, map, slice_index};
-ghost use Rattle.machine_model.specs.Decision.{is_tested, outcomes_of, places_of, places_of_call, test_of, value_of_binary};
+ghost use Rattle.machine_model.specs.Decision.{is_tested, outcomes_of, addresses_of, addresses_of_call, test_of, value_of_binary};
 ghost use Rattle.machine_model.specs.Thread.{value_of, width_of_operand};
 
 use ir_types::{BinOp, Extern, Inst, Kind, Module, OpTrap, Operand, Width, Word, binary};
@@ -71,13 +71,14 @@ fn argument(frame: &Frame, arguments: &[Operand], index: usize) -> u64
     }
 }
 
-fn decide_places_of_call(
+#[tactic(auto, unfolding(machine_model::specs::Decision::addresses_of_call))]
+fn decide_addresses_of_call(
     frame: &Frame,
     which: &Extern,
     arguments: &[Operand],
     decided: &mut Vec<u64>,
 ) -> Result<(), NoMemory>
-    ensures { OnOk result (decided.new.items ≡ decided.old.items ++ places_of_call which.now (map (value_of frame.now) arguments.now)) }
+    ensures { OnOk result (decided.new.items ≡ decided.old.items ++ addresses_of_call which.now (map (value_of frame.now) arguments.now)) }
 {
     match which {
         Extern::Create { .. } => {
@@ -94,9 +95,9 @@ fn decide_places_of_call(
 }
 
 /// Adds the addresses and thread numbers that the instruction decides.
-#[tactic(auto, unfolding(machine_model::specs::Decision::places_of))]
-pub fn decide_places(frame: &Frame, inst: &Inst, decided: &mut Vec<u64>) -> Result<(), NoMemory>
-    ensures { OnOk result (decided.new.items ≡ decided.old.items ++ places_of frame.now inst.now) }
+#[tactic(auto, unfolding(machine_model::specs::Decision::addresses_of))]
+pub fn decide_addresses(frame: &Frame, inst: &Inst, decided: &mut Vec<u64>) -> Result<(), NoMemory>
+    ensures { OnOk result (decided.new.items ≡ decided.old.items ++ addresses_of frame.now inst.now) }
 {
     match inst {
         Inst::Load { at, .. } | Inst::Store { at, .. } => {
@@ -104,7 +105,7 @@ pub fn decide_places(frame: &Frame, inst: &Inst, decided: &mut Vec<u64>) -> Resu
             Ok(())
         }
         Inst::External { which, args, .. } => {
-            decide_places_of_call(frame, which, args.items.as_slice(), decided)
+            decide_addresses_of_call(frame, which, args.items.as_slice(), decided)
         }
         _ => Ok(()),
     }

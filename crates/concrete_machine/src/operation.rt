@@ -6,8 +6,9 @@ ghost use Rattle.machine_model.specs.Decision.{outcomes_of};
 ghost use Rattle.machine_model.specs.Effect.{Effect as Effects, mapped};
 ghost use Rattle.machine_model.specs.Instruction.{effect_of};
 ghost use Rattle.machine_model.specs.Operation.{charged_for_items, footprint_of, put_back, result_of_return, returned, visible_effect, with_frame};
+ghost use Rattle.machine_model.specs.Step.{first_step, first_step_in};
 ghost use Rattle.machine_model.specs.Thread.{onward_after, top, value_of, with_top};
-ghost use Rattle.machine_model.specs.Turn.{charged, operated, operated_in};
+ghost use Rattle.machine_model.specs.Turn.{charged, paid};
 ghost use Rattle.concrete_machine.specs.Advance.{moved_to};
 ghost use Rattle.concrete_machine.specs.Call.{Calls, Prints};
 ghost use Rattle.concrete_machine.specs.Frame.{HasRoom};
@@ -33,6 +34,8 @@ pub enum Action {
     Exits(u8),
     Traps(Trap),
     Blocks,
+    /// There is no row for it.
+    NoRow,
 }
 
 /// How many items an instruction prints, each of which costs 1 beyond the instruction.
@@ -97,7 +100,7 @@ fn conclude(
             Ok(Action::Done)
         }
         Called::Traps(trap) => Ok(Action::Traps(trap)),
-        Called::Blocks => Ok(Action::Blocks),
+        Called::NoRow => Ok(Action::NoRow),
     }
 }
 
@@ -146,7 +149,7 @@ fn access(
     match apply(setting, thread, objects, decided, inst) {
         Effect::Done => Action::Done,
         Effect::Traps(trap) => Action::Traps(trap),
-        Effect::Blocks => Action::Blocks,
+        Effect::NoRow => Action::NoRow,
     }
 }
 
@@ -210,7 +213,7 @@ fn settle(action: Action, more: u32, site: Site, left: &mut u32) -> Option<TurnE
             *left -= 1;
             Some(TurnEnd::Trap(trap, site))
         }
-        Action::Blocks => Some(TurnEnd::Spent),
+        Action::Blocks | Action::NoRow => Some(TurnEnd::Spent),
     }
 }
 
@@ -248,24 +251,25 @@ fn decide(
     setting: &Setting<'_>,
     state: &State,
     thread: &Thread,
-    places: &[u64],
+    addresses: &[u64],
     inst: &Inst,
     decided: &mut Vec<u64>,
 ) -> Result<Vec<u64>, NoMemory>
     requires { decided.old.items ≡ [] }
     ensures outcomes { OnOk result ((frame : Frame) → top thread.now ≡ Some frame →
         decided.new.items ≡ outcomes_of setting.now.code state.now.objects frame inst.now) }
-    ensures all { IfOk result (λ numbers. numbers.items ≡ places.now ++ decided.new.items) }
+    ensures all { IfOk result (λ numbers. numbers.items ≡ addresses.now ++ decided.new.items) }
 {
     if let Some(frame) = top(thread) {
         decide_outcomes(setting.module, &state.objects.items, frame, inst, decided)?;
     }
-    let mut numbers = Vec::from_slice(alloc, places)?;
+    let mut numbers = Vec::from_slice(alloc, addresses)?;
     numbers.extend_from_slice(decided)?;
     Ok(numbers)
 }
 
 /// Runs the visible instruction that is pending.
+#[tactic(auto, unfolding(machine_model::specs::Turn::paid))]
 fn run_pending(
     alloc: Global,
     setting: &Setting<'_>,
@@ -278,17 +282,17 @@ fn run_pending(
     requires few { length state.old.threads ≤ 16 }
     requires thread { number < length state.old.threads }
     requires fresh { decided.old.items ≡ [] }
-    ensures value { IfOk result (λ end. (thread : Thread) (site : Site) (places : List ℕ) →
+    ensures value { IfOk result (λ end. (thread : Thread) (site : Site) (addresses : List ℕ) →
         slice_get state.old.threads number ≡ Some thread →
-        thread.pending ≡ Operation.At site places →
-        operated_in setting.now state.old number left.old thread places (top thread)
+        thread.pending ≡ Operation.At site addresses →
+        paid state.old left.old [] (first_step_in setting.now state.old number thread addresses (top thread))
         ≡ moved_to end state.new left.new decided.new.items) }
     ensures few { IfOk result (λ end. length state.new.threads ≤ 16) }
     ensures kept { IfOk result (λ end. length state.old.threads ≤ length state.new.threads) }
 {
     let thread = &state.threads.items[number];
     let Operation::At {
-        decided: places,
+        decided: addresses,
         ..
     } = &thread.pending
     else {
@@ -302,7 +306,7 @@ fn run_pending(
         setting,
         state,
         thread,
-        &places.items,
+        &addresses.items,
         placed.inst,
         decided,
     )?;
@@ -312,7 +316,7 @@ fn run_pending(
 
 /// Runs the operation that is pending, and says how the turn ends, if it does. `decided` is empty, and gets the
 /// numbers that the operation decides when it runs.
-#[tactic(auto, unfolding(machine_model::specs::Turn::operated))]
+#[tactic(auto, unfolding(machine_model::specs::Turn::paid, machine_model::specs::Step::first_step))]
 pub fn operate(
     alloc: Global,
     setting: &Setting<'_>,
@@ -326,7 +330,7 @@ pub fn operate(
     requires thread { number < length state.old.threads }
     requires fresh { decided.old.items ≡ [] }
     ensures value { IfOk result (λ end. (thread : Thread) → slice_get state.old.threads number ≡ Some thread →
-        operated setting.now state.old number left.old thread thread.pending
+        paid state.old left.old [] (first_step setting.now state.old number thread thread.pending)
         ≡ moved_to end state.new left.new decided.new.items) }
     ensures few { IfOk result (λ end. length state.new.threads ≤ 16) }
     ensures kept { IfOk result (λ end. length state.old.threads ≤ length state.new.threads) }

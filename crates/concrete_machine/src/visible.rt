@@ -6,12 +6,34 @@ ghost use Rattle.machine_model.specs.Operation.{is_visible, is_visible_call, is_
 use ir_types::{Extern, Inst, Site};
 use machine_model::Thread;
 
+/// Whether it is a call by which threads meet or wait, or that prints or ends the process.
+#[tactic(auto, unfolding(machine_model::specs::Operation::is_visible_call))]
 fn is_visible_call(which: &Extern) -> bool
     ensures { result ≡ is_visible_call which.now }
 {
     matches!(
         which,
-        Extern::Create { .. } | Extern::Join | Extern::Putchar
+        Extern::Create { .. }
+            | Extern::Join
+            | Extern::ThreadExit
+            | Extern::MutexInit
+            | Extern::MutexDestroy
+            | Extern::Lock
+            | Extern::TryLock
+            | Extern::Unlock
+            | Extern::CondInit
+            | Extern::CondDestroy
+            | Extern::CondWait
+            | Extern::CondReturn
+            | Extern::Signal
+            | Extern::Broadcast
+            | Extern::Yield
+            | Extern::Usleep
+            | Extern::Sleep
+            | Extern::Putchar
+            | Extern::Puts
+            | Extern::Printf { .. }
+            | Extern::Exit
     )
 }
 

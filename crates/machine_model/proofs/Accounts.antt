@@ -1,5 +1,5 @@
 -- A turn pays for what it prints: each item costs 1, and so does the turn itself unless it is cut.
-use Rattle.std.proofs.Common.{◌≡◌, ◌≢◌, ℕ, zero, suc, ◌+◌, ◌<◌, ◌≤◌, leb, eqb, List, ◌∷◌, [], length, Option, Some, None, refl, ap, arith, length-append, map, ◌%◌}
+use Rattle.std.proofs.Common.{◌≡◌, ◌≢◌, ℕ, zero, suc, ◌+◌, ◌<◌, ◌≤◌, leb, eqb, List, ◌∷◌, ◌++◌, [], length, Option, Some, None, refl, ap, arith, length-append, map, ◌%◌}
 use Rattle.std.specs.Prelude.{slice_get, slice_set}
 use Rattle.std.specs.List.{list_all}
 use Rattle.std.proofs.lemmas.Bool.{leb-false, eqb-false}
@@ -11,22 +11,23 @@ use Rattle.machine_model.specs.declared.run.TurnEnd.{TurnEnd}
 use Rattle.machine_model.specs.declared.run.TurnEnd.TheVariants as ends
 use Rattle.machine_model.specs.declared.state.Frame.{Frame}
 use Rattle.machine_model.specs.declared.state.Operation.{Operation}
-use Rattle.machine_model.specs.declared.state.Operation.TheVariants.{Start, At, CondReturn, Nothing}
 use Rattle.machine_model.specs.declared.state.State.{State}
 use Rattle.machine_model.specs.declared.state.Thread.{Thread}
 use Rattle.machine_model.specs.Call.{Returned, is_blocked, call_of}
-use Rattle.machine_model.specs.Code.{Placed, next_in}
 use Rattle.machine_model.specs.Effect.{Effect, Footprint, mapped}
-use Rattle.machine_model.specs.Effect.Effect.{Done, Exits, Traps, Blocks}
+use Rattle.machine_model.specs.Effect.Effect.{Done, Exits, Traps, Blocks, NoRow}
 use Rattle.machine_model.specs.Instruction.{effect_of}
 use Rattle.machine_model.specs.Memory.{without}
 use Rattle.machine_model.specs.Operation.{visible_effect, charged_for_items, ended, returned, ends_with, unless_last, with_status, put_back, footprint_of}
 use Rattle.machine_model.specs.Setting.{Setting}
-use Rattle.machine_model.specs.Thread.{top, has_ended, value_of}
-use Rattle.machine_model.specs.Turn.{Turned, Move, charged, moved, operated, operated_in, operated_at, rest_of_turn, went_on, ran, ran_on, then_on, turn, turn_of}
+use Rattle.machine_model.specs.Thread.{has_ended, value_of}
+use Rattle.machine_model.specs.Step.{Step, first_step, next_step}
+use Rattle.machine_model.specs.Step.Step.{Waits, Runs, Starts, Lacks}
+use Rattle.machine_model.specs.Turn.{Turned, Move, charged, paid, rest_of_turn, went_on, ran, ran_on, then_on, turn, turn_of}
 use Rattle.machine_model.specs.Turn.Move.{Leads, Stops}
 use Rattle.machine_model.proofs.Cases.{by_test}
-use Rattle.machine_model.proofs.Payment.{Pays, moved-pays}
+use Rattle.machine_model.proofs.Payment.{Pays, paid-pays}
+use Rattle.machine_model.proofs.Steps.{each-first_step}
 
 -- what an effect prints costs it 1 for each item, but for the exit status
 abbrev pub Charges : State → Effect State → Type 0
@@ -36,6 +37,7 @@ Charges before (Exits more status after) =
     (length before.output ≤ length after.output) × (length after.output ≤ length before.output + more + 1)
 Charges before (Traps trap) = Unit {0}
 Charges before Blocks = Unit {0}
+Charges before NoRow = Unit {0}
 
 returned-charges : (state : State) (number : ℕ) (frame : Frame) (to : Option ℕ) (call : Effect Returned) →
     Charges state (charged_for_items (returned state.output number frame to) call)
@@ -45,6 +47,7 @@ returned-charges state number frame to (Exits more status call) =
     let long = length-append state.output call.items in (omega arith, omega arith)
 returned-charges state number frame to (Traps trap) = tt
 returned-charges state number frame to Blocks = tt
+returned-charges state number frame to NoRow = tt
 
 status-charges : (before state : State) (more status : ℕ) → state.output ≡ before.output →
     Charges before (Exits more status (with_status state status))
@@ -75,6 +78,7 @@ mapped-charges state number (Done more after) = (omega arith, omega arith)
 mapped-charges state number (Exits more status after) = (omega arith, omega arith)
 mapped-charges state number (Traps trap) = tt
 mapped-charges state number Blocks = tt
+mapped-charges state number NoRow = tt
 
 visible_effect-charges : (setting : Setting) (state : State) (number : ℕ) (thread : Thread) (frame : Frame)
     (decided : List ℕ) (inst : Inst) → Charges state (visible_effect setting state number thread frame decided inst)
@@ -112,6 +116,9 @@ MoveBalances before left (Leads after rest decided) = Balances before after left
 MoveBalances before left (Stops turned) =
     IsOver turned.end × Balances before turned.after left turned.left (price_of turned.end)
 
+spent-balances : (state : State) (left : ℕ) → IsOver ends.Spent × Balances state state left left 0
+spent-balances state left = (tt, record { grows = omega arith; pays = omega arith })
+
 charged-balances : (before : State) (left : ℕ) (decided : List ℕ) (site : Site) (effect : Effect State) →
     Charges before effect → MoveBalances before left (charged before left decided site effect)
 unfolding charged
@@ -127,35 +134,33 @@ charged-balances before left decided site (Traps trap) charges =
     by_test (MoveBalances before left) (eqb left 0) _ _
     (λ h. (tt, record { grows = omega arith; pays = omega arith }))
     (λ h. let some : left ≢ 0 = eqb-false left 0 h in (tt, record { grows = omega arith; pays = omega arith }))
-charged-balances before left decided site Blocks charges = (tt, record { grows = omega arith; pays = omega arith })
+charged-balances before left decided site Blocks charges = spent-balances before left
+charged-balances before left decided site NoRow charges = spent-balances before left
 
-spent-balances : (state : State) (left : ℕ) → IsOver ends.Spent × Balances state state left left 0
-spent-balances state left = (tt, record { grows = omega arith; pays = omega arith })
+-- of a step with which a turn begins, which does not wait
+abbrev StepCharges : State → Step State → Type 0
+StepCharges before (Waits after addresses) = ⊥
+StepCharges before (Runs numbers site effect) = Charges before effect
+StepCharges before Starts = Unit {0}
+StepCharges before Lacks = Unit {0}
 
-operated_at-balances : (setting : Setting) (state : State) (number left : ℕ) (thread : Thread) (decided : List ℕ)
-    (frame : Frame) (placed : Option Placed) →
-    MoveBalances state left (operated_at setting state number left thread decided frame placed)
-operated_at-balances setting state number left thread decided frame None = spent-balances state left
-operated_at-balances setting state number left thread decided frame (Some placed) =
-    charged-balances state left _ placed.site _ (visible_effect-charges setting state number thread frame _ placed.inst)
-
-operated_in-balances : (setting : Setting) (state : State) (number left : ℕ) (thread : Thread) (decided : List ℕ)
-    (frame : Option Frame) → MoveBalances state left (operated_in setting state number left thread decided frame)
-operated_in-balances setting state number left thread decided None = spent-balances state left
-operated_in-balances setting state number left thread decided (Some frame) =
-    operated_at-balances setting state number left thread decided frame (next_in setting.code frame)
-
-operated-balances : (setting : Setting) (state : State) (number left : ℕ) (thread : Thread) (operation : Operation) →
-    MoveBalances state left (operated setting state number left thread operation)
-unfolding operated
-operated-balances setting state number left thread Start =
-    by_test (MoveBalances state left) (eqb left 0) _ _
-    (λ h. spent-balances state left)
+paid-balances : (before : State) (left : ℕ) (decided : List ℕ) (step : Step State) → StepCharges before step →
+    MoveBalances before left (paid before left decided step)
+unfolding paid
+paid-balances before left decided (Waits after addresses) charges = absurd charges
+paid-balances before left decided (Runs numbers site effect) charges =
+    charged-balances before left (decided ++ numbers) site effect charges
+paid-balances before left decided Starts charges =
+    by_test (MoveBalances before left) (eqb left 0) _ _
+    (λ h. spent-balances before left)
     (λ h. let some : left ≢ 0 = eqb-false left 0 h in record { grows = omega arith; pays = omega arith })
-operated-balances setting state number left thread (At site decided) =
-    operated_in-balances setting state number left thread decided (top thread)
-operated-balances setting state number left thread (CondReturn site decided) = spent-balances state left
-operated-balances setting state number left thread Nothing = spent-balances state left
+paid-balances before left decided Lacks charges = spent-balances before left
+
+first_step-charges : (setting : Setting) (state : State) (number : ℕ) (thread : Thread) (operation : Operation) →
+    StepCharges state (first_step setting state number thread operation)
+first_step-charges setting state number thread operation =
+    each-first_step (StepCharges state) setting state number thread operation tt tt
+    (λ numbers decided site frame inst. visible_effect-charges setting state number thread frame decided inst)
 
 then_on-keeps : (go : Footprint → ℕ → List ℕ → Turned Footprint) (left : ℕ) (move : Move Footprint) → Pays left move →
     ((after : Footprint) (rest : ℕ) (decided : List ℕ) → (go after rest decided).left ≤ rest) →
@@ -169,8 +174,8 @@ ran-keeps : (setting : Setting) (number most : ℕ) (footprint : Footprint) (lef
 unfolding ran
 ran-keeps setting number zero footprint left decided = omega arith
 ran-keeps setting number (suc most) footprint left decided =
-    then_on-keeps (ran most setting number) left (moved setting number footprint left decided)
-    (moved-pays setting number footprint left decided) (ran-keeps setting number most)
+    then_on-keeps (ran most setting number) left (paid footprint left decided (next_step setting number footprint))
+    (paid-pays footprint left decided (next_step setting number footprint)) (ran-keeps setting number most)
 
 -- the turn goes on from here
 went_on-balances : (setting : Setting) (number : ℕ) (before state : State) (left rest : ℕ) (decided : List ℕ)
@@ -210,5 +215,6 @@ turn-balances setting state number left = by_thread (slice_get state.threads num
         Balances state turned.after left turned.left (price_of turned.end)
     by_thread None = (spent-balances state left).1
     by_thread (Some thread) =
-        by_move (operated setting state number left thread thread.pending)
-        (operated-balances setting state number left thread thread.pending)
+        by_move (paid state left [] (first_step setting state number thread thread.pending))
+        (paid-balances state left [] (first_step setting state number thread thread.pending)
+        (first_step-charges setting state number thread thread.pending))

@@ -7,24 +7,20 @@ use Rattle.machine_model.specs.declared.run.Outcome.TheVariants as outcomes
 use Rattle.machine_model.specs.declared.run.Run.{Run}
 use Rattle.machine_model.specs.declared.run.TurnEnd.{TurnEnd}
 use Rattle.machine_model.specs.declared.run.TurnEnd.TheVariants as ends
-use Rattle.machine_model.specs.declared.state.Frame.{Frame}
-use Rattle.machine_model.specs.declared.state.Operation.{Operation}
-use Rattle.machine_model.specs.declared.state.Operation.TheVariants.{Start, At, CondReturn, Nothing}
 use Rattle.machine_model.specs.declared.state.State.{State}
 use Rattle.machine_model.specs.declared.state.Thread.{Thread}
-use Rattle.machine_model.specs.Code.{Placed, next_in}
 use Rattle.machine_model.specs.Effect.{Effect, Footprint}
-use Rattle.machine_model.specs.Effect.Effect.{Done, Exits, Traps, Blocks}
-use Rattle.machine_model.specs.Decision.{places_of, outcomes_of}
-use Rattle.machine_model.specs.Instruction.{effect_of}
-use Rattle.machine_model.specs.Operation.{is_visible, footprint_of}
+use Rattle.machine_model.specs.Effect.Effect.{Done, Exits, Traps, Blocks, NoRow}
+use Rattle.machine_model.specs.Operation.{footprint_of}
 use Rattle.machine_model.specs.Run.{Advance, Course, advanced, advanced_with, advanced_by, after_turn, begun, onward_or_told, run_from, run_of}
 use Rattle.machine_model.specs.Run.Advance.{Onward, Over}
 use Rattle.machine_model.specs.Policy.{Choice, choose}
 use Rattle.machine_model.specs.Enabled.{enabled}
 use Rattle.machine_model.specs.Setting.{Setting}
-use Rattle.machine_model.specs.Thread.{top, has_ended}
-use Rattle.machine_model.specs.Turn.{Turned, Move, charged, stops, waiting, moved, moved_in, moved_at, operated, operated_in, operated_at, rest_of_turn, went_on, put_in, ran, ran_on, then_on, turn, turn_of}
+use Rattle.machine_model.specs.Thread.{has_ended}
+use Rattle.machine_model.specs.Step.{Step, first_step, next_step}
+use Rattle.machine_model.specs.Step.Step.{Waits, Runs, Starts, Lacks}
+use Rattle.machine_model.specs.Turn.{Turned, Move, charged, paid, rest_of_turn, went_on, put_in, ran, ran_on, then_on, turn, turn_of}
 use Rattle.machine_model.specs.Turn.Move.{Leads, Stops}
 use Rattle.machine_model.proofs.Cases.{by_test}
 
@@ -69,46 +65,21 @@ charged-lasts {S} more before left decided site (Traps trap) =
     rw (ne_eqb (left + more) 0 (omega arith))
     (ap (λ rest. Stops (record { after = before; left = rest; decided = decided; end = ends.Trap trap site })) (omega arith)))
 charged-lasts {S} more before left decided site Blocks = λ whole. absurd (whole refl)
+charged-lasts {S} more before left decided site NoRow = λ whole. absurd (whole refl)
 
-moved_at-lasts : (setting : Setting) (number more : ℕ) (footprint : Footprint) (left : ℕ) (decided : List ℕ)
-    (frame : Frame) (placed : Option Placed) →
-    Lasts more (moved_at setting number footprint left decided frame placed)
-    (moved_at setting number footprint (left + more) decided frame placed)
-moved_at-lasts setting number more footprint left decided frame None = λ whole. absurd (whole refl)
-moved_at-lasts setting number more footprint left decided frame (Some placed) =
-    go (is_visible setting.watch footprint.thread placed.site placed.inst)
-  where
-    places : List ℕ
-    places = places_of frame placed.inst
-
-    numbers : List ℕ
-    numbers = places ++ outcomes_of setting.code footprint.objects frame placed.inst
-
-    pending : ℕ → Move Footprint
-    pending rest = stops (waiting footprint placed.site places) rest (decided ++ places) ends.Going
-
-    run : ℕ → Move Footprint
-    run rest = charged footprint rest (decided ++ numbers) placed.site
-        (effect_of setting number footprint frame numbers placed.inst)
-
-    go : (visible : Bool) → Lasts more (cond visible (pending left) (run left)) (cond visible (pending (left + more)) (run (left + more)))
-    go true = λ whole. refl
-    go false = charged-lasts more footprint left (decided ++ numbers) placed.site
-        (effect_of setting number footprint frame numbers placed.inst)
-
-moved_in-lasts : (setting : Setting) (number more : ℕ) (footprint : Footprint) (left : ℕ) (decided : List ℕ)
-    (frame : Option Frame) →
-    Lasts more (moved_in setting number footprint left decided frame)
-    (moved_in setting number footprint (left + more) decided frame)
-moved_in-lasts setting number more footprint left decided None = λ whole. absurd (whole refl)
-moved_in-lasts setting number more footprint left decided (Some frame) =
-    moved_at-lasts setting number more footprint left decided frame (next_in setting.code frame)
-
-moved-lasts : (setting : Setting) (number more : ℕ) (footprint : Footprint) (left : ℕ) (decided : List ℕ) →
-    Lasts more (moved setting number footprint left decided) (moved setting number footprint (left + more) decided)
-unfolding moved
-moved-lasts setting number more footprint left decided =
-    moved_in-lasts setting number more footprint left decided (top footprint.thread)
+paid-lasts : {S : Type 0} (more : ℕ) (before : S) (left : ℕ) (decided : List ℕ) (step : Step S) →
+    Lasts more (paid before left decided step) (paid before (left + more) decided step)
+unfolding paid
+paid-lasts more before left decided (Waits after addresses) = λ whole. refl
+paid-lasts more before left decided (Runs numbers site effect) =
+    charged-lasts more before left (decided ++ numbers) site effect
+paid-lasts {S} more before left decided Starts =
+    by_test (λ (move : Move S). Lasts more move (paid before (left + more) decided Starts))
+    (eqb left 0) _ _
+    (λ h whole. absurd (whole refl))
+    (λ h whole. let some : left ≢ 0 = eqb-false left 0 h in
+    rw (ne_eqb (left + more) 0 (omega arith)) (ap (λ rest. Leads before rest decided) (omega arith)))
+paid-lasts more before left decided Lacks = λ whole. absurd (whole refl)
 
 -- what a move leads to lasts where what it goes on with does
 then_on-lasts : {S : Type 0} (more : ℕ) (go other : S → ℕ → List ℕ → Turned S) (move richer_one : Move S) →
@@ -128,8 +99,9 @@ ran-lasts setting number more zero most' footprint left decided h whole = absurd
 ran-lasts setting number more (suc most) zero footprint left decided h whole = absurd (omega arith)
 ran-lasts setting number more (suc most) (suc most') footprint left decided h whole =
     then_on-lasts more (ran most setting number) (ran most' setting number)
-    (moved setting number footprint left decided) (moved setting number footprint (left + more) decided)
-    (moved-lasts setting number more footprint left decided)
+    (paid footprint left decided (next_step setting number footprint))
+    (paid footprint (left + more) decided (next_step setting number footprint))
+    (paid-lasts more footprint left decided (next_step setting number footprint))
     (λ after rest others. ran-lasts setting number more most most' after rest others (omega arith))
     whole
 
@@ -159,46 +131,15 @@ unfolding rest_of_turn
 rest_of_turn-lasts setting number more state left decided =
     went_on-lasts setting number more state left decided (slice_get state.threads number)
 
-operated_at-lasts : (setting : Setting) (state : State) (number more left : ℕ) (thread : Thread) (decided : List ℕ)
-    (frame : Frame) (placed : Option Placed) →
-    Lasts more (operated_at setting state number left thread decided frame placed)
-    (operated_at setting state number (left + more) thread decided frame placed)
-operated_at-lasts setting state number more left thread decided frame None = λ whole. absurd (whole refl)
-operated_at-lasts setting state number more left thread decided frame (Some placed) =
-    charged-lasts more state left _ placed.site _
-
-operated_in-lasts : (setting : Setting) (state : State) (number more left : ℕ) (thread : Thread) (decided : List ℕ)
-    (frame : Option Frame) →
-    Lasts more (operated_in setting state number left thread decided frame)
-    (operated_in setting state number (left + more) thread decided frame)
-operated_in-lasts setting state number more left thread decided None = λ whole. absurd (whole refl)
-operated_in-lasts setting state number more left thread decided (Some frame) =
-    operated_at-lasts setting state number more left thread decided frame (next_in setting.code frame)
-
-operated-lasts : (setting : Setting) (state : State) (number more left : ℕ) (thread : Thread) (operation : Operation) →
-    Lasts more (operated setting state number left thread operation)
-    (operated setting state number (left + more) thread operation)
-unfolding operated
-operated-lasts setting state number more left thread Start =
-    by_test (λ (move : Move State). Lasts more move (operated setting state number (left + more) thread Start))
-    (eqb left 0) _ _
-    (λ h whole. absurd (whole refl))
-    (λ h whole. let some : left ≢ 0 = eqb-false left 0 h in
-    rw (ne_eqb (left + more) 0 (omega arith)) (ap (λ rest. Leads state rest []) (omega arith)))
-operated-lasts setting state number more left thread (At site decided) =
-    operated_in-lasts setting state number more left thread decided (top thread)
-operated-lasts setting state number more left thread (CondReturn site decided) = λ whole. absurd (whole refl)
-operated-lasts setting state number more left thread Nothing = λ whole. absurd (whole refl)
-
 turn_of-lasts : (setting : Setting) (state : State) (number more left : ℕ) (thread : Option Thread) →
     (turn_of setting state number left thread).end ≢ ends.Spent →
     turn_of setting state number (left + more) thread ≡ richer more (turn_of setting state number left thread)
 turn_of-lasts setting state number more left None whole = absurd (whole refl)
 turn_of-lasts setting state number more left (Some thread) whole =
     then_on-lasts more (rest_of_turn setting number) (rest_of_turn setting number)
-    (operated setting state number left thread thread.pending)
-    (operated setting state number (left + more) thread thread.pending)
-    (operated-lasts setting state number more left thread thread.pending)
+    (paid state left [] (first_step setting state number thread thread.pending))
+    (paid state (left + more) [] (first_step setting state number thread thread.pending))
+    (paid-lasts more state left [] (first_step setting state number thread thread.pending))
     (rest_of_turn-lasts setting number more) whole
 
 -- a turn that was not cut is the same with more steps

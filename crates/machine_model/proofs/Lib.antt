@@ -11,5 +11,6 @@ pub mod PolicyEquality
 pub mod Powers
 pub mod RoundRobin
 pub mod StateEquality
+pub mod Steps
 pub mod Stored
 pub mod Unrepeated

@@ -1,15 +1,13 @@
 -- Each step that a turn takes costs at least 1, so a turn takes no more of them than are left.
-use Rattle.std.proofs.Common.{◌≡◌, ℕ, zero, suc, ◌<◌, ◌≤◌, leb, eqb, List, Option, Some, None, refl, arith}
-use Rattle.std.proofs.lemmas.Bool.{leb-false}
+use Rattle.std.proofs.Common.{◌≡◌, ◌≢◌, ℕ, zero, suc, ◌<◌, ◌≤◌, leb, eqb, List, ◌++◌, refl, arith}
+use Rattle.std.proofs.lemmas.Bool.{leb-false, eqb-false}
 use Rattle.ir_types.specs.declared.instruction.Site.{Site}
-use Rattle.machine_model.specs.declared.state.Frame.{Frame}
-use Rattle.machine_model.specs.Code.{Placed, next_in}
 use Rattle.machine_model.specs.Effect.{Effect, Footprint}
-use Rattle.machine_model.specs.Effect.Effect.{Done, Exits, Traps, Blocks}
-use Rattle.machine_model.specs.Operation.{is_visible}
+use Rattle.machine_model.specs.Effect.Effect.{Done, Exits, Traps, Blocks, NoRow}
 use Rattle.machine_model.specs.Setting.{Setting}
-use Rattle.machine_model.specs.Thread.{top}
-use Rattle.machine_model.specs.Turn.{Turned, Move, charged, moved, moved_in, moved_at, then_on, ran}
+use Rattle.machine_model.specs.Step.{Step, next_step}
+use Rattle.machine_model.specs.Step.Step.{Waits, Runs, Starts, Lacks}
+use Rattle.machine_model.specs.Turn.{Turned, Move, charged, paid, then_on, ran}
 use Rattle.machine_model.specs.Turn.Move.{Leads, Stops}
 use Rattle.machine_model.proofs.Cases.{by_test}
 
@@ -29,27 +27,17 @@ charged-pays before left decided site (Exits more status after) =
 charged-pays before left decided site (Traps trap) =
     by_test (Pays left) (eqb left 0) _ _ (λ h. omega arith) (λ h. omega arith)
 charged-pays before left decided site Blocks = omega arith
+charged-pays before left decided site NoRow = omega arith
 
-moved_at-pays : (setting : Setting) (number : ℕ) (footprint : Footprint) (left : ℕ) (decided : List ℕ)
-    (frame : Frame) (placed : Option Placed) →
-    Pays left (moved_at setting number footprint left decided frame placed)
-moved_at-pays setting number footprint left decided frame None = omega arith
-moved_at-pays setting number footprint left decided frame (Some placed) =
-    by_test (Pays left) (is_visible setting.watch footprint.thread placed.site placed.inst) _ _
-    (λ h. omega arith)
-    (λ h. charged-pays footprint left _ placed.site _)
-
-moved_in-pays : (setting : Setting) (number : ℕ) (footprint : Footprint) (left : ℕ) (decided : List ℕ)
-    (frame : Option Frame) → Pays left (moved_in setting number footprint left decided frame)
-moved_in-pays setting number footprint left decided None = omega arith
-moved_in-pays setting number footprint left decided (Some frame) =
-    moved_at-pays setting number footprint left decided frame (next_in setting.code frame)
-
-pub moved-pays : (setting : Setting) (number : ℕ) (footprint : Footprint) (left : ℕ) (decided : List ℕ) →
-    Pays left (moved setting number footprint left decided)
-unfolding moved
-moved-pays setting number footprint left decided =
-    moved_in-pays setting number footprint left decided (top footprint.thread)
+pub paid-pays : {S : Type 0} (before : S) (left : ℕ) (decided : List ℕ) (step : Step S) →
+    Pays left (paid before left decided step)
+unfolding paid
+paid-pays before left decided (Waits after addresses) = omega arith
+paid-pays before left decided (Runs numbers site effect) = charged-pays before left (decided ++ numbers) site effect
+paid-pays before left decided Starts =
+    by_test (Pays left) (eqb left 0) _ _ (λ h. omega arith)
+    (λ h. let some : left ≢ 0 = eqb-false left 0 h in omega arith)
+paid-pays before left decided Lacks = omega arith
 
 -- what two ways of going on agree on, a move that pays agrees on
 pub then_on-agrees : {S : Type 0} (go other : S → ℕ → List ℕ → Turned S) (left : ℕ) (move : Move S) → Pays left move →
@@ -65,6 +53,7 @@ unfolding ran
 ran-agrees setting number zero two footprint left decided h k = absurd (omega arith)
 ran-agrees setting number (suc one) zero footprint left decided h k = absurd (omega arith)
 ran-agrees setting number (suc one) (suc two) footprint left decided h k =
-    then_on-agrees (ran one setting number) (ran two setting number) left (moved setting number footprint left decided)
-    (moved-pays setting number footprint left decided)
+    then_on-agrees (ran one setting number) (ran two setting number) left
+    (paid footprint left decided (next_step setting number footprint))
+    (paid-pays footprint left decided (next_step setting number footprint))
     (λ after rest more less. ran-agrees setting number one two after rest more (omega arith) (omega arith))

@@ -1,7 +1,7 @@
 -- The operation that a thread waits to do, as other threads see it, and the accesses of memory among them.
 use Rattle.std.specs.Prelude.{ℕ, ◌+◌, Bool, true, false, ◌&&◌, ◌==◌, nat_lt, List, slice_get, slice_index, Option, Some, None}
 use Rattle.ir_types.specs.declared.instruction.Inst.{Inst}
-use Rattle.ir_types.specs.declared.instruction.Inst.TheVariants.{Load, Store}
+use Rattle.ir_types.specs.declared.instruction.Inst.TheVariants.{Binary, Compare, Convert, Same, Select, Phi, Alloca, Load, Store, Address, Branch, BranchIf, Switch, Ret, Unreachable, Call, External}
 use Rattle.ir_types.specs.declared.instruction.Site.{Site}
 use Rattle.ir_types.specs.declared.«module».Module.{Module}
 use Rattle.ir_types.specs.Kind.{size_of}
@@ -28,7 +28,21 @@ pending_inst site decided (Load to kind at) =
     pendings.Access site (slice_index decided 0) (size_of kind) false
 pending_inst site decided (Store kind value at) =
     pendings.Access site (slice_index decided 0) (size_of kind) true
-pending_inst site decided _ = pendings.Other
+pending_inst site decided (Binary to op a b) = pendings.Other
+pending_inst site decided (Compare to op a b) = pendings.Other
+pending_inst site decided (Convert to op a width) = pendings.Other
+pending_inst site decided (Same to a) = pendings.Other
+pending_inst site decided (Select to c a b) = pendings.Other
+pending_inst site decided (Phi to edges) = pendings.Other
+pending_inst site decided (Alloca to unit count) = pendings.Other
+pending_inst site decided (Address to base fixed scaled) = pendings.Other
+pending_inst site decided (Branch block) = pendings.Other
+pending_inst site decided (BranchIf c one other) = pendings.Other
+pending_inst site decided (Switch value default cases) = pendings.Other
+pending_inst site decided (Ret value) = pendings.Other
+pending_inst site decided Unreachable = pendings.Other
+pending_inst site decided (Call to function arguments) = pendings.Other
+pending_inst site decided (External to which arguments) = pendings.Other
 
 abbrev pub pending_placed : Site → List ℕ → Option Placed → Pending
 pending_placed site decided None = pendings.Other

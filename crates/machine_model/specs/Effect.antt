@@ -17,14 +17,17 @@ pub data Effect (S : Type 0) : Type 0 where
   Exits : ℕ → ℕ → S → Effect S
   -- it traps and changes nothing
   Traps : Trap → Effect S
-  -- it can't be done now; so is an instruction that has no row
+  -- it can't be done now
   Blocks : Effect S
+  -- no row says what it does
+  NoRow : Effect S
 
 abbrev pub mapped : {S T : Type 0} → (S → T) → Effect S → Effect T
 mapped f (Done more after) = Done more (f after)
 mapped f (Exits more status after) = Exits more status (f after)
 mapped f (Traps trap) = Traps trap
 mapped f Blocks = Blocks
+mapped f NoRow = NoRow
 
 -- a result with a trap for its error is done at no further cost, or traps
 abbrev pub done_or_traps : {A S : Type 0} → (A → S) → Result A Trap → Effect S

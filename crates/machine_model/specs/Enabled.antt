@@ -2,7 +2,7 @@
 use Rattle.std.specs.Prelude.{ℕ, Bool, false, not, ◌&&◌, List, length, filter, slice_get, Option, Some, None}
 use Rattle.std.specs.List.{range_with_len}
 use Rattle.ir_types.specs.declared.instruction.Inst.{Inst}
-use Rattle.ir_types.specs.declared.instruction.Inst.TheVariants.{External}
+use Rattle.ir_types.specs.declared.instruction.Inst.TheVariants.{Binary, Compare, Convert, Same, Select, Phi, Alloca, Load, Store, Address, Branch, BranchIf, Switch, Ret, Unreachable, Call, External}
 use Rattle.machine_model.specs.declared.state.Frame.{Frame}
 use Rattle.machine_model.specs.declared.state.Operation.{Operation}
 use Rattle.machine_model.specs.declared.state.Operation.TheVariants.{Start, At, CondReturn, Nothing}
@@ -15,8 +15,23 @@ use Rattle.machine_model.specs.Thread.{top, has_ended}
 
 -- only calls wait
 unfoldable pub waits_for : State → List ℕ → Inst → Bool
+waits_for state decided (Binary to op a b) = false
+waits_for state decided (Compare to op a b) = false
+waits_for state decided (Convert to op a width) = false
+waits_for state decided (Same to a) = false
+waits_for state decided (Select to c a b) = false
+waits_for state decided (Phi to edges) = false
+waits_for state decided (Alloca to unit count) = false
+waits_for state decided (Load to kind at) = false
+waits_for state decided (Store kind value at) = false
+waits_for state decided (Address to base fixed scaled) = false
+waits_for state decided (Branch block) = false
+waits_for state decided (BranchIf c one other) = false
+waits_for state decided (Switch value default cases) = false
+waits_for state decided (Ret value) = false
+waits_for state decided Unreachable = false
+waits_for state decided (Call to function arguments) = false
 waits_for state decided (External to which arguments) = is_blocked state which decided
-waits_for state decided _ = false
 
 abbrev pub waits_at : State → List ℕ → Option Placed → Bool
 waits_at state decided None = false

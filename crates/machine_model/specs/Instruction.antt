@@ -1,7 +1,7 @@
 -- The rows of the instructions that change only their thread and the objects.
 use Rattle.std.specs.Prelude.{ℕ, ◌%◌, ◌^◌, List, slice_index, Result, Ok, Err}
 use Rattle.ir_types.specs.declared.instruction.Inst.{Inst}
-use Rattle.ir_types.specs.declared.instruction.Inst.TheVariants.{Binary, Load, Store}
+use Rattle.ir_types.specs.declared.instruction.Inst.TheVariants.{Binary, Compare, Convert, Same, Select, Phi, Alloca, Load, Store, Address, Branch, BranchIf, Switch, Ret, Unreachable, Call, External}
 use Rattle.ir_types.specs.declared.operation.OpTrap.{OpTrap}
 use Rattle.ir_types.specs.declared.operation.OpTrap.TheVariants as op_traps
 use Rattle.ir_types.specs.Kind.{width_of, size_of}
@@ -12,7 +12,7 @@ use Rattle.machine_model.specs.declared.trap.Trap.{Trap}
 use Rattle.machine_model.specs.declared.trap.Trap.TheVariants.{DivZero, DivOverflow, Overshift}
 use Rattle.machine_model.specs.Decision.{value_of_binary}
 use Rattle.machine_model.specs.Effect.{Effect, Footprint, done_or_traps}
-use Rattle.machine_model.specs.Effect.Effect.{Done, Traps, Blocks}
+use Rattle.machine_model.specs.Effect.Effect.{Done, Traps, NoRow}
 use Rattle.machine_model.specs.Memory.{read, written}
 use Rattle.machine_model.specs.Setting.{Setting}
 use Rattle.machine_model.specs.Thread.{onward, onward_with, with_top, value_of}
@@ -47,4 +47,17 @@ effect_of setting number footprint frame decided (Store kind value at) =
     done_or_traps (stores footprint frame)
     (written footprint.objects (slice_index decided 0) (size_of kind)
     (value_of frame value % 2 ^ bits_of (width_of kind)))
-effect_of setting number footprint frame decided _ = Blocks
+effect_of setting number footprint frame decided (Compare to op a b) = NoRow
+effect_of setting number footprint frame decided (Convert to op a width) = NoRow
+effect_of setting number footprint frame decided (Same to a) = NoRow
+effect_of setting number footprint frame decided (Select to c a b) = NoRow
+effect_of setting number footprint frame decided (Phi to edges) = NoRow
+effect_of setting number footprint frame decided (Alloca to unit count) = NoRow
+effect_of setting number footprint frame decided (Address to base fixed scaled) = NoRow
+effect_of setting number footprint frame decided (Branch block) = NoRow
+effect_of setting number footprint frame decided (BranchIf c one other) = NoRow
+effect_of setting number footprint frame decided (Switch value default cases) = NoRow
+effect_of setting number footprint frame decided (Ret value) = NoRow
+effect_of setting number footprint frame decided Unreachable = NoRow
+effect_of setting number footprint frame decided (Call to function arguments) = NoRow
+effect_of setting number footprint frame decided (External to which arguments) = NoRow

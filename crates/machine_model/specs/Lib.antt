@@ -24,6 +24,7 @@ pub mod RepeatLaws
 pub mod Run
 pub mod Runnable
 pub mod Setting
+pub mod Step
 pub mod TestedRun
 pub mod Thread
 pub mod Turn

@@ -2,10 +2,10 @@
 use Rattle.std.specs.Prelude.{ℕ, ◌+◌, ◌%◌, Bool, true, false, ◌&&◌, ◌==◌, List, [], ◌∷◌, ◌++◌, length, map, slice_get, slice_set, Option, Some, None, if◌then◌else◌}
 use Rattle.std.specs.List.{list_any, list_all}
 use Rattle.ir_types.specs.declared.external.Extern.{Extern}
-use Rattle.ir_types.specs.declared.external.Extern.TheVariants.{Create, Join, Putchar}
+use Rattle.ir_types.specs.declared.external.Extern.TheVariants.{Create, Join, ThreadExit, SelfNumber, MutexInit, MutexDestroy, Lock, TryLock, Unlock, CondInit, CondDestroy, CondWait, CondReturn, Signal, Broadcast, Yield, Usleep, Sleep, Malloc, Calloc, Free, Memcpy, Memmove, Memset, Strlen, LlvmMemcpy, LlvmMemmove, LlvmMemset, Putchar, Puts, Printf, Exit, Abort, AssertFail, Input}
 use Rattle.ir_types.specs.declared.external.ItemKind.TheVariants.{Status}
 use Rattle.ir_types.specs.declared.instruction.Inst.{Inst}
-use Rattle.ir_types.specs.declared.instruction.Inst.TheVariants.{Load, Store, Ret, External}
+use Rattle.ir_types.specs.declared.instruction.Inst.TheVariants.{Binary, Compare, Convert, Same, Select, Phi, Alloca, Load, Store, Address, Branch, BranchIf, Switch, Ret, Unreachable, Call, External}
 use Rattle.ir_types.specs.declared.instruction.Operand.{Operand}
 use Rattle.ir_types.specs.declared.instruction.Site.{Site}
 use Rattle.machine_model.specs.declared.state.Frame.{Frame}
@@ -15,17 +15,49 @@ use Rattle.machine_model.specs.declared.state.State.{State}
 use Rattle.machine_model.specs.declared.state.Thread.{Thread}
 use Rattle.machine_model.specs.Call.{Returned, is_blocked, call_of}
 use Rattle.machine_model.specs.Effect.{Effect, Footprint, mapped}
-use Rattle.machine_model.specs.Effect.Effect.{Done, Exits, Traps, Blocks}
+use Rattle.machine_model.specs.Effect.Effect.{Done, Exits, Traps, Blocks, NoRow}
 use Rattle.machine_model.specs.Instruction.{effect_of}
 use Rattle.machine_model.specs.Memory.{without}
 use Rattle.machine_model.specs.Setting.{Setting}
 use Rattle.machine_model.specs.Thread.{with_top, has_ended, value_of, onward_after}
 
-abbrev pub is_visible_call : Extern → Bool
+-- the calls by which threads meet or wait, and those that print or end the process
+unfoldable pub is_visible_call : Extern → Bool
 is_visible_call (Create function) = true
 is_visible_call Join = true
+is_visible_call ThreadExit = true
+is_visible_call SelfNumber = false
+is_visible_call MutexInit = true
+is_visible_call MutexDestroy = true
+is_visible_call Lock = true
+is_visible_call TryLock = true
+is_visible_call Unlock = true
+is_visible_call CondInit = true
+is_visible_call CondDestroy = true
+is_visible_call CondWait = true
+is_visible_call CondReturn = true
+is_visible_call Signal = true
+is_visible_call Broadcast = true
+is_visible_call Yield = true
+is_visible_call Usleep = true
+is_visible_call Sleep = true
+is_visible_call Malloc = false
+is_visible_call Calloc = false
+is_visible_call Free = false
+is_visible_call Memcpy = false
+is_visible_call Memmove = false
+is_visible_call Memset = false
+is_visible_call Strlen = false
+is_visible_call LlvmMemcpy = false
+is_visible_call LlvmMemmove = false
+is_visible_call LlvmMemset = false
 is_visible_call Putchar = true
-is_visible_call _ = false
+is_visible_call Puts = true
+is_visible_call (Printf pieces) = true
+is_visible_call Exit = true
+is_visible_call Abort = false
+is_visible_call AssertFail = false
+is_visible_call (Input slot width) = false
 
 abbrev pub is_watched : List Site → Site → Bool
 is_watched watch site = list_any (λ other. (other.function == site.function) && (other.inst == site.inst)) watch
@@ -36,11 +68,23 @@ is_last_frame thread = length thread.frames == 1
 
 -- the instruction waits for a turn of its own: the end of a thread, a visible call, or a watched access
 unfoldable pub is_visible : List Site → Thread → Site → Inst → Bool
-is_visible watch thread site (External to which arguments) = is_visible_call which
-is_visible watch thread site (Ret value) = is_last_frame thread
+is_visible watch thread site (Binary to op a b) = false
+is_visible watch thread site (Compare to op a b) = false
+is_visible watch thread site (Convert to op a width) = false
+is_visible watch thread site (Same to a) = false
+is_visible watch thread site (Select to c a b) = false
+is_visible watch thread site (Phi to edges) = false
+is_visible watch thread site (Alloca to unit count) = false
 is_visible watch thread site (Load to kind at) = is_watched watch site
 is_visible watch thread site (Store kind value at) = is_watched watch site
-is_visible watch thread site _ = false
+is_visible watch thread site (Address to base fixed scaled) = false
+is_visible watch thread site (Branch block) = false
+is_visible watch thread site (BranchIf c one other) = false
+is_visible watch thread site (Switch value default cases) = false
+is_visible watch thread site (Ret value) = is_last_frame thread
+is_visible watch thread site Unreachable = false
+is_visible watch thread site (Call to function arguments) = false
+is_visible watch thread site (External to which arguments) = is_visible_call which
 
 -- the exit status is the last item of the output
 abbrev pub with_status : State → ℕ → State
@@ -85,6 +129,7 @@ charged_for_items after (Done more call) = Done (length call.items + more) (afte
 charged_for_items after (Exits more status call) = Exits (length call.items + more) status (after call)
 charged_for_items after (Traps trap) = Traps trap
 charged_for_items after Blocks = Blocks
+charged_for_items after NoRow = NoRow
 
 abbrev pub put_back : State → ℕ → Footprint → State
 put_back state number footprint =
@@ -93,13 +138,46 @@ put_back state number footprint =
 abbrev pub footprint_of : State → Thread → Footprint
 footprint_of state thread = record { thread = thread; objects = state.objects }
 
+-- a visible instruction that changes only its thread and the objects
+abbrev pub on_footprint : Setting → State → ℕ → Thread → Frame → List ℕ → Inst → Effect State
+on_footprint setting state number thread frame decided inst =
+    mapped (put_back state number) (effect_of setting number (footprint_of state thread) frame decided inst)
+
 -- what a visible instruction does, its numbers decided
 unfoldable pub visible_effect : Setting → State → ℕ → Thread → Frame → List ℕ → Inst → Effect State
+visible_effect setting state number thread frame decided (Binary to op a b) =
+    on_footprint setting state number thread frame decided (Binary to op a b)
+visible_effect setting state number thread frame decided (Compare to op a b) =
+    on_footprint setting state number thread frame decided (Compare to op a b)
+visible_effect setting state number thread frame decided (Convert to op a width) =
+    on_footprint setting state number thread frame decided (Convert to op a width)
+visible_effect setting state number thread frame decided (Same to a) =
+    on_footprint setting state number thread frame decided (Same to a)
+visible_effect setting state number thread frame decided (Select to c a b) =
+    on_footprint setting state number thread frame decided (Select to c a b)
+visible_effect setting state number thread frame decided (Phi to edges) =
+    on_footprint setting state number thread frame decided (Phi to edges)
+visible_effect setting state number thread frame decided (Alloca to unit count) =
+    on_footprint setting state number thread frame decided (Alloca to unit count)
+visible_effect setting state number thread frame decided (Load to kind at) =
+    on_footprint setting state number thread frame decided (Load to kind at)
+visible_effect setting state number thread frame decided (Store kind value at) =
+    on_footprint setting state number thread frame decided (Store kind value at)
+visible_effect setting state number thread frame decided (Address to base fixed scaled) =
+    on_footprint setting state number thread frame decided (Address to base fixed scaled)
+visible_effect setting state number thread frame decided (Branch block) =
+    on_footprint setting state number thread frame decided (Branch block)
+visible_effect setting state number thread frame decided (BranchIf c one other) =
+    on_footprint setting state number thread frame decided (BranchIf c one other)
+visible_effect setting state number thread frame decided (Switch value default cases) =
+    on_footprint setting state number thread frame decided (Switch value default cases)
+visible_effect setting state number thread frame decided (Ret value) =
+    ends_with state number thread frame (result_of_return frame value)
+visible_effect setting state number thread frame decided Unreachable =
+    on_footprint setting state number thread frame decided Unreachable
+visible_effect setting state number thread frame decided (Call to function arguments) =
+    on_footprint setting state number thread frame decided (Call to function arguments)
 visible_effect setting state number thread frame decided (External to which arguments) =
     if is_blocked state which decided then Blocks
     else charged_for_items (returned state.output number frame to)
     (call_of setting state which (map (value_of frame) arguments) decided)
-visible_effect setting state number thread frame decided (Ret value) =
-    ends_with state number thread frame (result_of_return frame value)
-visible_effect setting state number thread frame decided inst =
-    mapped (put_back state number) (effect_of setting number (footprint_of state thread) frame decided inst)

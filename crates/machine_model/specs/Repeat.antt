@@ -17,7 +17,8 @@ same_state one other = (state.ghosts).eq (without_output one) (without_output ot
 abbrev pub same_last : Option ℕ → Option ℕ → Bool
 same_last None None = true
 same_last (Some one) (Some other) = one == other
-same_last _ _ = false
+same_last None (Some other) = false
+same_last (Some one) None = false
 
 -- the choosers are equal, which follow one list
 unfoldable pub same_policy : Policy → Policy → Bool

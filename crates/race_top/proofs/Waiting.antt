@@ -11,22 +11,23 @@ use Rattle.ir_types.specs.declared.instruction.Site.{Site}
 use Rattle.machine_model.specs.declared.state.Frame.{Frame}
 use Rattle.machine_model.specs.declared.state.Object.{Object}
 use Rattle.machine_model.specs.declared.state.Operation.{Operation}
-use Rattle.machine_model.specs.declared.state.Operation.TheVariants.{Start, At, CondReturn, Nothing}
 use Rattle.machine_model.specs.declared.state.State.{State}
 use Rattle.machine_model.specs.declared.state.Thread.{Thread}
 use Rattle.machine_model.specs.declared.trap.Trap.{Trap}
 use Rattle.machine_model.specs.Call.{Returned, call_of, created, is_blocked, joined, joined_or_traps, most_threads, with_result, with_thread}
-use Rattle.machine_model.specs.Code.{Placed, next_in}
 use Rattle.machine_model.specs.Effect.{Effect, Footprint, done_or_traps, mapped}
-use Rattle.machine_model.specs.Effect.Effect.{Done, Exits, Traps, Blocks}
+use Rattle.machine_model.specs.Effect.Effect.{Done, Exits, Traps, Blocks, NoRow}
 use Rattle.machine_model.specs.Instruction.{effect_of}
 use Rattle.machine_model.specs.Memory.{written}
 use Rattle.machine_model.specs.Operation.{charged_for_items, ended, ends_with, footprint_of, put_back, returned, visible_effect, with_frame}
 use Rattle.machine_model.specs.Setting.{Setting}
-use Rattle.machine_model.specs.Thread.{has_ended, made, top, value_of}
-use Rattle.machine_model.specs.Turn.{Move, Turned, charged, operated, operated_at, operated_in, rest_of_turn, then_on, turn, turn_of, went_on}
+use Rattle.machine_model.specs.Thread.{has_ended, made, value_of}
+use Rattle.machine_model.specs.Step.{Step, first_step}
+use Rattle.machine_model.specs.Step.Step.{Waits, Runs, Starts, Lacks}
+use Rattle.machine_model.specs.Turn.{Move, Turned, charged, paid, rest_of_turn, then_on, turn, turn_of, went_on}
 use Rattle.machine_model.specs.Turn.Move.{Leads, Stops}
 use Rattle.machine_model.proofs.Cases.{by_test}
+use Rattle.machine_model.proofs.Steps.{each-first_step}
 
 -- the thread of this number is the same in both states, but for being joined
 abbrev pub Keeps : ℕ → List Thread → List Thread → Type 0
@@ -92,12 +93,14 @@ EffectKeeps waiting before (Done more after) = Keeps waiting before.threads afte
 EffectKeeps waiting before (Exits more status after) = Keeps waiting before.threads after.threads
 EffectKeeps waiting before (Traps trap) = Unit {0}
 EffectKeeps waiting before Blocks = Unit {0}
+EffectKeeps waiting before NoRow = Unit {0}
 
 abbrev CallKeeps : ℕ → State → Effect Returned → Type 0
 CallKeeps waiting before (Done more call) = Keeps waiting before.threads call.state.threads
 CallKeeps waiting before (Exits more status call) = Keeps waiting before.threads call.state.threads
 CallKeeps waiting before (Traps trap) = Unit {0}
 CallKeeps waiting before Blocks = Unit {0}
+CallKeeps waiting before NoRow = Unit {0}
 
 created-keeps : (waiting : ℕ) (setting : Setting) (state : State) (function argument at : ℕ) →
     CallKeeps waiting state (created setting state function argument at)
@@ -151,6 +154,7 @@ module _ (waiting number : ℕ) (apart : waiting ≢ number) where
       keeps-on waiting state.threads call.state.threads _ keeps (with_frame-keeps call.state _ (slice_get call.state.threads number))
   returned-keeps state frame to (Traps trap) keeps = tt
   returned-keeps state frame to Blocks keeps = tt
+  returned-keeps state frame to NoRow keeps = tt
 
   ends-keeps : (state : State) (thread : Thread) (frame : Frame) (result : ℕ) →
       EffectKeeps waiting state (ends_with state number thread frame result)
@@ -167,6 +171,7 @@ module _ (waiting number : ℕ) (apart : waiting ≢ number) where
   mapped-keeps state (Exits more status after) = keeps-set waiting number state.threads after.thread apart
   mapped-keeps state (Traps trap) = tt
   mapped-keeps state Blocks = tt
+  mapped-keeps state NoRow = tt
 
   visible-keeps : (setting : Setting) (state : State) (thread : Thread) (frame : Frame) (decided : List ℕ) (inst : Inst) →
       EffectKeeps waiting state (visible_effect setting state number thread frame decided inst)
@@ -195,29 +200,30 @@ module _ (waiting number : ℕ) (apart : waiting ≢ number) where
       by_test (MoveKeeps before) (eqb left 0) _ _
       (λ h. keeps-itself waiting before.threads) (λ h. keeps-itself waiting before.threads)
   charged-keeps before left decided site Blocks keeps = keeps-itself waiting before.threads
+  charged-keeps before left decided site NoRow keeps = keeps-itself waiting before.threads
 
-  operated_at-keeps : (setting : Setting) (state : State) (left : ℕ) (thread : Thread) (decided : List ℕ) (frame : Frame)
-      (placed : Option Placed) → MoveKeeps state (operated_at setting state number left thread decided frame placed)
-  operated_at-keeps setting state left thread decided frame None = keeps-itself waiting state.threads
-  operated_at-keeps setting state left thread decided frame (Some placed) =
-      charged-keeps state left _ placed.site _ (visible-keeps setting state thread frame _ placed.inst)
+  abbrev StepKeeps : State → Step State → Type 0
+  StepKeeps before (Waits after addresses) = Keeps waiting before.threads after.threads
+  StepKeeps before (Runs numbers site effect) = EffectKeeps waiting before effect
+  StepKeeps before Starts = Unit {0}
+  StepKeeps before Lacks = Unit {0}
 
-  operated_in-keeps : (setting : Setting) (state : State) (left : ℕ) (thread : Thread) (decided : List ℕ)
-      (frame : Option Frame) → MoveKeeps state (operated_in setting state number left thread decided frame)
-  operated_in-keeps setting state left thread decided None = keeps-itself waiting state.threads
-  operated_in-keeps setting state left thread decided (Some frame) =
-      operated_at-keeps setting state left thread decided frame (next_in setting.code frame)
+  paid-keeps : (before : State) (left : ℕ) (decided : List ℕ) (step : Step State) → StepKeeps before step →
+      MoveKeeps before (paid before left decided step)
+  unfolding paid
+  paid-keeps before left decided (Waits after addresses) keeps = keeps
+  paid-keeps before left decided (Runs numbers site effect) keeps =
+      charged-keeps before left (decided ++ numbers) site effect keeps
+  paid-keeps before left decided Starts keeps =
+      by_test (MoveKeeps before) (eqb left 0) _ _
+      (λ h. keeps-itself waiting before.threads) (λ h. keeps-itself waiting before.threads)
+  paid-keeps before left decided Lacks keeps = keeps-itself waiting before.threads
 
-  operated-keeps : (setting : Setting) (state : State) (left : ℕ) (thread : Thread) (operation : Operation) →
-      MoveKeeps state (operated setting state number left thread operation)
-  unfolding operated
-  operated-keeps setting state left thread Start =
-      by_test (MoveKeeps state) (eqb left 0) _ _
-      (λ h. keeps-itself waiting state.threads) (λ h. keeps-itself waiting state.threads)
-  operated-keeps setting state left thread (At site decided) =
-      operated_in-keeps setting state left thread decided (top thread)
-  operated-keeps setting state left thread (CondReturn site decided) = keeps-itself waiting state.threads
-  operated-keeps setting state left thread Nothing = keeps-itself waiting state.threads
+  first_step-keeps : (setting : Setting) (state : State) (thread : Thread) (operation : Operation) →
+      StepKeeps state (first_step setting state number thread operation)
+  first_step-keeps setting state thread operation =
+      each-first_step (StepKeeps state) setting state number thread operation tt tt
+      (λ numbers decided site frame inst. visible-keeps setting state thread frame decided inst)
 
   went_on-keeps : (setting : Setting) (state : State) (left : ℕ) (decided : List ℕ) (thread : Option Thread) →
       Keeps waiting state.threads (went_on setting number state left decided thread).after.threads
@@ -243,5 +249,6 @@ module _ (waiting number : ℕ) (apart : waiting ≢ number) where
           Keeps waiting state.threads (turn_of setting state number left thread).after.threads
       by_thread None = keeps-itself waiting state.threads
       by_thread (Some thread) =
-          by_move (operated setting state number left thread thread.pending)
-          (operated-keeps setting state left thread thread.pending)
+          by_move (paid state left [] (first_step setting state number thread thread.pending))
+          (paid-keeps state left [] (first_step setting state number thread thread.pending)
+          (first_step-keeps setting state thread thread.pending))

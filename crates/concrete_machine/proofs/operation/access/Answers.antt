@@ -3,7 +3,7 @@ use Rattle.std.proofs.lemmas.Grind.{common_steps}
 use Rattle.std.proofs.lemmas.Option.{gets}
 use Rattle.machine_model.specs.Thread.{top}
 use Rattle.concrete_machine.proofs.operation.access.Goals as goal
-use Rattle.concrete_machine.proofs.operation.access.Goals.{in-Done, in-Traps, in-Blocks}
+use Rattle.concrete_machine.proofs.operation.access.Goals.{in-Done, in-Traps, in-NoRow}
 
 pub returns-clause-value : goal.returns-clause-value
 returns-clause-value c = λ thread frame there tops.
@@ -13,5 +13,5 @@ returns-clause-value c = λ thread frame there tops.
     elim c.match-apply.branch [
       | in-Done w ↦ grind (arith, common_steps, gets)
       | in-Traps w ↦ grind (arith, common_steps, gets)
-      | in-Blocks w ↦ grind (arith, common_steps, gets)
+      | in-NoRow w ↦ grind (arith, common_steps, gets)
     ]

@@ -19,15 +19,15 @@ run_visible-requires-clause-thread c =
     subst AtThread (sym there) c.in-Some.ensures.room
 
 pub returns-clause-value : goal.returns-clause-value
-returns-clause-value c = λ thread site places there pending.
+returns-clause-value c = λ thread site addresses there pending.
     let more = c.decide.new.decided.items in
     let same : c.index-thread.result.now ≡ thread = grind (arith, common_steps, gets) in
-    let listed : c.deref.result.now ≡ places = cc in
-    let all : c.deref-2.result.now ≡ places ++ more =
+    let listed : c.deref.result.now ≡ addresses = cc in
+    let all : c.deref-2.result.now ≡ addresses ++ more =
     c.deref-2.ensures.value ∙ c.in_ok-numbers.ensures.all ∙ ap (λ front. front ++ more) listed in
     let code = ap (λ (setting : Setting). next_of setting.code c.index-thread.result.now) c.setting.view_is in
     let next = ap (next_of c.args.setting.now.code) (sym same) ∙ sym code ∙ sym c.in-Some.ensures.value in
-    moves_pending c.args.setting.now c.args.state.now c.args.number c.args.left.now thread places more c.deref-2.result.now
+    moves_pending c.args.setting.now c.args.state.now c.args.number c.args.left.now thread addresses more c.deref-2.result.now
     (placed_of c.in-Some.placed) (moved_to c.in_ok-end.end c.run_visible.new.state c.run_visible.new.left more) next
     (λ frame tops. c.in_ok-numbers.ensures.outcomes frame (ap top same ∙ tops)) all
     (λ frame tops. c.in_ok-end.ensures.value thread frame more there tops)

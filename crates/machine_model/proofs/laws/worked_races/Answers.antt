@@ -2,7 +2,7 @@ use Rattle.std.proofs.Common.{refl}
 use Rattle.machine_model.specs.Access.{pending_operation}
 use Rattle.machine_model.specs.Call.{is_blocked, call_of}
 use Rattle.machine_model.specs.Code.{next_in}
-use Rattle.machine_model.specs.Decision.{places_of, outcomes_of}
+use Rattle.machine_model.specs.Decision.{addresses_of, addresses_of_call, outcomes_of}
 use Rattle.machine_model.specs.Enabled.{enabled, is_enabled, waits, waits_for}
 use Rattle.machine_model.specs.Follow.{follow_turns}
 use Rattle.machine_model.specs.Hold.{held_from}
@@ -10,17 +10,18 @@ use Rattle.machine_model.specs.Instruction.{effect_of}
 use Rattle.machine_model.specs.Job.{HeldOn, hold_point}
 use Rattle.machine_model.specs.Memory.{read, written, bytes_of}
 use Rattle.machine_model.specs.Moment.{moments_from, moments_of}
-use Rattle.machine_model.specs.Operation.{is_visible, visible_effect}
+use Rattle.machine_model.specs.Operation.{is_visible, is_visible_call, visible_effect}
 use Rattle.machine_model.specs.Policy.{choose}
 use Rattle.machine_model.specs.Reach.{Reaches}
 use Rattle.machine_model.specs.Repeat.{power_within, repeats, same_policy, same_state}
 use Rattle.machine_model.specs.Run.{advanced}
 use Rattle.machine_model.specs.TestedRun.{tested_from, tested_run}
-use Rattle.machine_model.specs.Turn.{turn, ran, moved, charged, rest_of_turn, operated}
+use Rattle.machine_model.specs.Turn.{turn, ran, paid, charged, rest_of_turn}
+use Rattle.machine_model.specs.Step.{first_step, next_step}
 use Rattle.machine_model.proofs.laws.worked_races.Goals as goal
 
 pub returns : goal.returns
-unfolding advanced turn ran moved charged rest_of_turn operated choose follow_turns enabled is_enabled waits waits_for is_visible visible_effect is_blocked call_of next_in places_of outcomes_of effect_of read written bytes_of pending_operation held_from HeldOn hold_point moments_from moments_of Reaches power_within repeats same_policy same_state tested_from tested_run
+unfolding advanced turn ran next_step first_step paid charged rest_of_turn choose follow_turns enabled is_enabled waits waits_for is_visible is_visible_call visible_effect is_blocked call_of next_in addresses_of addresses_of_call outcomes_of effect_of read written bytes_of pending_operation held_from HeldOn hold_point moments_from moments_of Reaches power_within repeats same_policy same_state tested_from tested_run
 returns c = record {
   recorded = λ input. refl;
   other = λ input. refl;
