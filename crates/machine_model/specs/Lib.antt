@@ -7,9 +7,11 @@ pub mod Enabled
 pub mod Example
 pub mod Follow
 pub mod Hold
+pub mod HoldLaws
 pub mod Instruction
 pub mod Job
 pub mod JobLaws
+pub mod JobReplays
 pub mod Laws
 pub mod Memory
 pub mod Moment
@@ -21,6 +23,7 @@ pub mod RaceExample
 pub mod Reach
 pub mod Repeat
 pub mod RepeatLaws
+pub mod ReplayLaws
 pub mod Run
 pub mod Runnable
 pub mod Setting

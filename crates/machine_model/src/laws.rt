@@ -5,12 +5,15 @@ ghost use Rattle.std.specs.Prelude.{◌≡◌, ℕ, [], ◌∷◌, Some, length,
 ghost use Rattle.std.specs.List.{range_with_len};
 ghost use Rattle.ir_types.specs.declared.input.Input.{Input};
 ghost use Rattle.machine_model.specs.Example.{cut_at_end, cut_in_thread, run_within, turn_counts, whole};
+ghost use Rattle.machine_model.specs.HoldLaws.{DivergedHasEnded, DoneDidSecond, HeldThreadWaits, StuckIsStuck};
 ghost use Rattle.machine_model.specs.Job.Alternate.{Not};
 ghost use Rattle.machine_model.specs.JobLaws.{MomentsAreTurns, UnrepeatedIsRun};
+ghost use Rattle.machine_model.specs.JobReplays.{AlternateReplays, PrimaryJobReplays};
 ghost use Rattle.machine_model.specs.Laws.{LargerBudgetKeepsRun, RunIsWithinBudget, RunNeedsNoMore, StoredIsLoaded, TurnNeedsNoMore};
 ghost use Rattle.machine_model.specs.PolicyLaws.{ChoiceIsEnabled, ChoiceIsLast, ChoosesUnlessNone, ListedIsChosen, ReleaseKeepsPlace, TakesTurns};
 ghost use Rattle.machine_model.specs.RaceExample.{both_turns, first_turns, leaving_alternate, ordered_alternate, other_order, printed_byte, prints, recorded_order, turned_by_numbers, turned_round, up_to_join};
 ghost use Rattle.machine_model.specs.RepeatLaws.{EarlierTurnIsPower, SamePolicyIsEqual, SameStateIsEqual};
+ghost use Rattle.machine_model.specs.ReplayLaws.{TurnsGiveTheRun};
 ghost use Rattle.machine_model.specs.declared.run.Outcome.TheVariants.{Exit, Spent};
 ghost use Rattle.machine_model.specs.declared.run.Reason.TheVariants.{Ended, Stuck};
 
@@ -53,6 +56,29 @@ pub fn repeat_test_is_equality()
 pub fn moments_are_turns()
     ensures moments { MomentsAreTurns }
     ensures unrepeated { UnrepeatedIsRun }
+{}
+
+/// What a run prints can be replayed: its turns, recorded, give the same run again.
+pub fn turns_give_the_run()
+    ensures { TurnsGiveTheRun }
+{
+    chooser_follows_the_list();
+}
+
+/// The held thread takes no turn in its hold, which is done with a turn that does the race's second access. It is
+/// stuck only where no other thread is enabled, and diverged only where the second thread has ended.
+pub fn hold_enforces_the_order()
+    ensures waits { HeldThreadWaits }
+    ensures done { DoneDidSecond }
+    ensures stuck { StuckIsStuck }
+    ensures diverged { DivergedHasEnded }
+{}
+
+/// The turns of a job's run, recorded, give the same run again, also where a thread was held on the way. Only a run
+/// that ends because a turn repeats is left out.
+pub fn jobs_replay()
+    ensures primary { PrimaryJobReplays }
+    ensures alternate { AlternateReplays }
 {}
 
 /// Memory gives back what was stored.

@@ -10,14 +10,14 @@ use Rattle.machine_model.specs.declared.run.TurnEnd.{TurnEnd}
 use Rattle.machine_model.specs.declared.run.TurnEnd.TheVariants as ends
 use Rattle.machine_model.specs.Enabled.{enabled}
 use Rattle.machine_model.specs.Policy.{Choice, choose}
+use Rattle.machine_model.specs.ReplayLaws.{course_after, onward_from}
 use Rattle.machine_model.specs.Run.{Course, advanced, advanced_by, advanced_with, after_turn, begun, onward_or_told, run_from, run_of}
 use Rattle.machine_model.specs.Setting.{Setting}
 use Rattle.machine_model.specs.Turn.{turn}
-use Rattle.race_top.specs.ReplayLaws.{course_after, onward_from}
+use Rattle.machine_model.proofs.Replays.{Chooser, Continues, IsAt, chosen-begins, follows-next, may-choose, mode-stays, next-in, run_from-begins, slice_get-after}
 use Rattle.race_top.specs.TraceReplay.{ReplayFault, fault_at_end, fault_from, first_other, replay_fault}
 use Rattle.race_top.specs.TraceReplay.ReplayFault.{TurnNotEnabled}
 use Rattle.race_top.proofs.Refusals.{differs}
-use Rattle.race_top.proofs.Replays.{Chooser, Continues, IsAt, chosen-begins, follows-next, may-choose, mode-stays, next-in, run_from-begins, slice_get-after}
 
 -- two lists have a front in common, and then differ
 pub record Parts (listed turns : List ℕ) (before : ℕ) : Type 0 where

@@ -11,8 +11,8 @@ use Rattle.machine_model.specs.Enabled.{enabled}
 use Rattle.machine_model.specs.Policy.{Choice, choose}
 use Rattle.machine_model.specs.Run.{Course, advanced, advanced_with, begun, onward_or_told, run_from, run_of}
 use Rattle.machine_model.specs.Setting.{Setting}
+use Rattle.machine_model.proofs.Replays.{Begins, chosen-begins, run_from-begins}
 use Rattle.race_top.specs.TraceReplay.{fault_at_end, fault_from, first_other, is_listed, replay_fault}
-use Rattle.race_top.proofs.Replays.{Begins, chosen-begins, run_from-begins}
 
 abbrev pub differs : ℕ × ℕ → Bool
 differs pair = not (eqb pair.0 pair.1)

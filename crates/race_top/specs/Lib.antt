@@ -12,9 +12,7 @@ pub mod Files
 pub mod Evidence
 pub mod FirstRefusal
 pub mod HoldTurn
-pub mod JobReplays
 pub mod OrderEnforcer
-pub mod OrderEnforcerLaws
 pub mod Past
 pub mod Races
 pub mod Recorded

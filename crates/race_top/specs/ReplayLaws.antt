@@ -1,19 +1,13 @@
--- What holds of every recorded run, whatever the module, the input and the watched sites.
-use Rattle.std.specs.Prelude.{◌≡◌, ◌≢◌, ℕ, zero, suc, ◌+◌, List, Contains, length, slice_get, take, Some, None}
+-- What holds of every refusal of a recorded run, whatever the module, the input and the watched sites.
+use Rattle.std.specs.Prelude.{◌≡◌, ◌≢◌, ℕ, ◌+◌, List, Contains, length, slice_get, take, Some, None}
 use Rattle.machine_model.specs.declared.run.Outcome.TheVariants as outcomes
 use Rattle.machine_model.specs.declared.run.Run.{Run}
 use Rattle.machine_model.specs.Enabled.{enabled}
-use Rattle.machine_model.specs.Run.{Advance, Course, advanced, begun, run_of}
-use Rattle.machine_model.specs.Run.Advance.{Onward, Over}
+use Rattle.machine_model.specs.ReplayLaws.{course_after}
+use Rattle.machine_model.specs.Run.{begun, run_of}
 use Rattle.machine_model.specs.Setting.{Setting}
 use Rattle.race_top.specs.TraceReplay.{replay_fault}
 use Rattle.race_top.specs.TraceReplay.ReplayFault.{TurnNotEnabled}
-
--- the turns of a run, given back as the listed ones, give the same run
-abbrev pub TurnsGiveTheRun : Type 0
-TurnsGiveTheRun =
-    (setting : Setting) (listed : List ℕ) (steps : ℕ) →
-    run_of setting (run_of setting listed steps).turns steps ≡ run_of setting listed steps
 
 -- a run that was not spent takes its own turns
 abbrev pub RunTakesItsTurns : Type 0
@@ -25,17 +19,6 @@ ListedAreTaken =
     (setting : Setting) (listed : List ℕ) (steps : ℕ) →
     replay_fault listed (run_of setting listed steps) ≡ None →
     take (length listed) (run_of setting listed steps).turns ≡ listed
-
--- the last turn, with which a run is over, leads nowhere
-abbrev pub onward_from : (Course → Course) → Course → Advance → Course
-onward_from go course (Onward next) = go next
-onward_from go course (Over last outcome) = course
-
--- the course after so many turns with which the run goes on
-unfoldable pub course_after : ℕ → Setting → List ℕ → Course → Course
-course_after zero setting listed course = course
-course_after (suc turns) setting listed course =
-    onward_from (course_after turns setting listed) course (advanced setting listed course)
 
 -- the thread of a listed turn that is refused as not enabled is none of those that are enabled at that moment
 abbrev pub RefusedIsNotEnabled : Type 0

@@ -2,7 +2,6 @@
 //! needs; each one's contract is a theorem.
 
 pub use crate::analyser_pool::laws::{classes_have_evidence, jobs_give_results};
-pub use crate::order_enforcer::laws::{hold_enforces_the_order, jobs_replay};
 pub use crate::trace_replay::laws::{
-    recorded_run_reaches, refusals_are_exact, refused_is_not_enabled, turns_give_the_run,
+    recorded_run_reaches, refusals_are_exact, refused_is_not_enabled,
 };

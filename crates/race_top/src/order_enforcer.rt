@@ -6,11 +6,9 @@
 //! - `point`: the run up to the hold point
 //! - `hold`: the hold of the race's first thread
 //! - `job`: the primary and the alternate as jobs
-//! - `laws`: what holds of every hold
 
 mod hold;
 mod job;
-pub mod laws;
 mod past;
 mod point;
 mod tested;

@@ -1,16 +1,9 @@
 //! Laws of the recorded run. No function here does anything; each one's contract is a theorem.
 
 ghost use Rattle.race_top.specs.CheckRaceLaws.{RecordedRunReaches, ThreadsDiffer};
-ghost use Rattle.race_top.specs.ReplayLaws.{ListedAreTaken, RefusedIsNotEnabled, RunTakesItsTurns, TurnsGiveTheRun};
+ghost use Rattle.race_top.specs.ReplayLaws.{ListedAreTaken, RefusedIsNotEnabled, RunTakesItsTurns};
 
 use machine_model::laws::chooser_follows_the_list;
-
-/// What a run prints can be replayed: its turns, recorded, give the same run again.
-pub fn turns_give_the_run()
-    ensures { TurnsGiveTheRun }
-{
-    chooser_follows_the_list();
-}
 
 /// The refusals are exact: a run that was not spent takes its own turns, and what is not refused was taken.
 pub fn refusals_are_exact()

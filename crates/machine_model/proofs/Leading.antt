@@ -14,7 +14,7 @@ use Rattle.machine_model.specs.Setting.{Setting}
 use Rattle.machine_model.specs.Turn.{turn}
 use Rattle.machine_model.proofs.Accounts.{turn-balances}
 use Rattle.machine_model.proofs.Policies.{choice-enabled, choice-is_last, choice-listed, choice-unless_none}
-use Rattle.race_top.proofs.Replays.{Begins, Begins-itself, IsAt, chosen_by, may-choose, mode-stays, next-in}
+use Rattle.machine_model.proofs.Replays.{Begins, Begins-itself, IsAt, chosen_by, may-choose, mode-stays, next-in}
 
 -- from this course on, a chooser that is as far in the list as the course has turns gives the run, whatever chose
 -- the turns before

@@ -14,6 +14,7 @@ use Rattle.machine_model.specs.Access.{Access}
 use Rattle.machine_model.specs.Enabled.{enabled}
 use Rattle.machine_model.specs.Hold.{Held, held_over, thread_has_ended}
 use Rattle.machine_model.specs.Hold.Held.{Done, NotEnforced, Ran}
+use Rattle.machine_model.specs.HoldLaws.{DivergedHasEnded, DoneDidSecond, HeldThreadWaits, StuckIsStuck, turns_of_hold}
 use Rattle.machine_model.specs.Moment.{Moment}
 use Rattle.machine_model.specs.Policy.{Choice, choose}
 use Rattle.machine_model.specs.PolicyLaws.{mode_after}
@@ -21,9 +22,8 @@ use Rattle.machine_model.specs.Reach.{does_second}
 use Rattle.machine_model.specs.Repeat.{Snapshot}
 use Rattle.machine_model.specs.Run.{Course, told}
 use Rattle.machine_model.specs.Setting.{Setting}
+use Rattle.machine_model.proofs.HoldCases.{IsTurn, each-hold}
 use Rattle.machine_model.proofs.Policies.{choice-enabled, choice-is_last, choice-unless_none}
-use Rattle.race_top.specs.OrderEnforcerLaws.{DivergedHasEnded, DoneDidSecond, HeldThreadWaits, StuckIsStuck, turns_of_hold}
-use Rattle.race_top.proofs.HoldCases.{IsTurn, each-hold}
 
 -- a hold adds turns, none of which is the held thread's
 abbrev Adds : ℕ → List ℕ → Held → Type 0

@@ -21,6 +21,7 @@ use Rattle.machine_model.specs.Hold.Held.{Done, NotEnforced, Ran}
 use Rattle.machine_model.specs.Job.{HeldOn, HoldPoint, alternate_after, held_course, held_on, hold_point, point_at, point_in, released_course, snapshots}
 use Rattle.machine_model.specs.Job.Alternate.{Runs}
 use Rattle.machine_model.specs.JobLaws.{IsRepeat}
+use Rattle.machine_model.specs.JobReplays.{AlternateReplays, PrimaryJobReplays}
 use Rattle.machine_model.specs.Moment.{Moment, access_at, from_turn, moments_from, moments_of, moments_with, onward_or_none}
 use Rattle.machine_model.specs.Policy.{Choice, choose, from_front}
 use Rattle.machine_model.specs.Primary.{setting_of}
@@ -31,16 +32,15 @@ use Rattle.machine_model.specs.Run.Advance.{Onward, Over}
 use Rattle.machine_model.specs.Setting.{Setting}
 use Rattle.machine_model.specs.TestedRun.{tested_on}
 use Rattle.machine_model.proofs.Cases.{by_test}
+use Rattle.machine_model.proofs.HoldCases.{IsTurn, LeadsTo, each-hold}
+use Rattle.machine_model.proofs.HoldLaws.{other-thread, still-held}
+use Rattle.machine_model.proofs.Leading.{Begins-on, IsEnabled, Leads, Returns, end_of, leads-itself, leads-on, leads-turn, listed-next, next_course, returns-turn, turn-less}
 use Rattle.machine_model.proofs.Policies.{choice-enabled, choice-is_last, choice-listed, choice-unless_none}
+use Rattle.machine_model.proofs.Released.{Ready, moment-ready, ready-enabled, ready-kept}
+use Rattle.machine_model.proofs.Replays.{Begins, Begins-itself, run_from-begins, run_of-turns}
+use Rattle.machine_model.proofs.RunReturns.{run-returns, tested-agrees}
 use Rattle.machine_model.proofs.Unrepeated.{unrepeated-is_run}
-use Rattle.race_top.specs.JobReplays.{AlternateReplays, PrimaryJobReplays}
-use Rattle.race_top.proofs.HoldCases.{IsTurn, LeadsTo, each-hold}
-use Rattle.race_top.proofs.HoldLaws.{other-thread, still-held}
-use Rattle.race_top.proofs.Leading.{Begins-on, IsEnabled, Leads, Returns, end_of, leads-itself, leads-on, leads-turn, listed-next, next_course, returns-turn, turn-less}
-use Rattle.race_top.proofs.Released.{Ready, moment-ready, ready-enabled, ready-kept}
-use Rattle.race_top.proofs.Replays.{Begins, Begins-itself, run_from-begins, run_of-turns}
-use Rattle.race_top.proofs.RunReturns.{run-returns, tested-agrees}
-use Rattle.race_top.proofs.Waiting.{Keeps, keeps-on, turn-keeps}
+use Rattle.machine_model.proofs.Waiting.{Keeps, keeps-on, turn-keeps}
 
 -- turns lead to each moment of a run, and its thread is enabled there
 record Comes (setting : Setting) (start : Course) (moment : Moment) : Type 0 where

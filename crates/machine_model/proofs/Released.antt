@@ -20,7 +20,7 @@ use Rattle.machine_model.specs.Moment.{Moment, access_at}
 use Rattle.machine_model.specs.Setting.{Setting}
 use Rattle.machine_model.specs.Thread.{has_ended, top}
 use Rattle.machine_model.proofs.Choices.{Contains-later}
-use Rattle.race_top.proofs.Waiting.{Keeps}
+use Rattle.machine_model.proofs.Waiting.{Keeps}
 
 -- the thread of this number has not ended, and its operation never has to wait
 pub record Ready (setting : Setting) (threads : List Thread) (number : ℕ) : Type 0 where

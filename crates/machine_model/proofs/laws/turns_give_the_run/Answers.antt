@@ -1,5 +1,5 @@
-use Rattle.race_top.proofs.Replays.{run_of-turns}
-use Rattle.race_top.proofs.trace_replay.laws.turns_give_the_run.Goals as goal
+use Rattle.machine_model.proofs.Replays.{run_of-turns}
+use Rattle.machine_model.proofs.laws.turns_give_the_run.Goals as goal
 
 pub returns : goal.returns
 returns c = run_of-turns (record {

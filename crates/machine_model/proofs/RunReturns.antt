@@ -16,9 +16,9 @@ use Rattle.machine_model.specs.Run.Advance.{Onward, Over}
 use Rattle.machine_model.specs.Setting.{Setting}
 use Rattle.machine_model.specs.TestedRun.{tested_after, tested_from}
 use Rattle.machine_model.proofs.Accounts.{turn-balances}
+use Rattle.machine_model.proofs.Leading.{AdvanceReturns, IsEnabled, Returns, end_of, listed-next, next_course, returns-none, returns-turn}
 use Rattle.machine_model.proofs.Policies.{choice-enabled, choice-is_last, choice-unless_none}
-use Rattle.race_top.proofs.Leading.{AdvanceReturns, IsEnabled, Returns, end_of, listed-next, next_course, returns-none, returns-turn}
-use Rattle.race_top.proofs.Replays.{chosen-begins, run_from-begins}
+use Rattle.machine_model.proofs.Replays.{chosen-begins, run_from-begins}
 
 -- after a choice in these modes each thread may be chosen
 abbrev pub IsFree : Mode → Type 0
