@@ -1,28 +1,27 @@
 -- What every hold has: the held thread waits, and each way of ending has its cause.
-use Rattle.std.proofs.Common.{◌≡◌, ◌≢◌, ℕ, Bool, true, false, eqb, List, ◌∷◌, [], ◌++◌, None, All, refl, sym, ap, ◌∙◌, append_assoc}
+use Rattle.std.proofs.Common.{◌≡◌, ◌≢◌, ℕ, Bool, true, false, ◌&&◌, eqb, ltb, List, ◌∷◌, [], ◌++◌, length, Option, Some, None, All, refl, sym, ap, ◌∙◌, append_assoc}
 use Rattle.std.specs.Prelude.{Contains, slice_get}
-use Rattle.std.proofs.lemmas.Bool.{eqb-false, eqb-true}
+use Rattle.std.proofs.lemmas.Bool.{eqb-false, eqb-true, ltb-true}
 use Rattle.std.proofs.lemmas.List.{append-nil}
 use Rattle.std.proofs.lemmas.List.Elements.{All-contains_itself, All-cons, All-head, All-nil, All-tail}
 use Rattle.machine_model.specs.declared.mode.Mode.TheVariants.{Hold}
 use Rattle.machine_model.specs.declared.race.Race.{Race}
 use Rattle.machine_model.specs.declared.run.Outcome.{Outcome}
 use Rattle.machine_model.specs.declared.run.Outcome.TheVariants as outcomes
-use Rattle.machine_model.specs.declared.run.Reason.{Reason}
 use Rattle.machine_model.specs.declared.run.Reason.TheVariants.{Stuck, Repeats, Ended, Diverged}
 use Rattle.machine_model.specs.Access.{Access}
 use Rattle.machine_model.specs.Enabled.{enabled}
-use Rattle.machine_model.specs.Hold.{Held, held_over, thread_has_ended}
+use Rattle.machine_model.specs.Hold.{Held, held_over}
 use Rattle.machine_model.specs.Hold.Held.{Done, NotEnforced, Ran}
-use Rattle.machine_model.specs.HoldLaws.{DivergedHasEnded, DoneDidSecond, HeldThreadWaits, StuckIsStuck, turns_of_hold}
-use Rattle.machine_model.specs.Moment.{Moment}
+use Rattle.machine_model.specs.HoldLaws.{CameTo, DidRepeat, EndsHaveCauses, HasCause, HeldThreadWaits, HoldTurn, turns_of_hold}
+use Rattle.machine_model.specs.HoldLaws.Comes.{Here, Later}
 use Rattle.machine_model.specs.Policy.{Choice, choose}
 use Rattle.machine_model.specs.PolicyLaws.{mode_after}
-use Rattle.machine_model.specs.Reach.{does_second}
-use Rattle.machine_model.specs.Repeat.{Snapshot}
-use Rattle.machine_model.specs.Run.{Course, told}
+use Rattle.machine_model.specs.Repeat.{Snapshot, earlier_turn, is_repeat, repeats, snapshot}
+use Rattle.machine_model.specs.Run.{Advance, Course, advanced, told}
+use Rattle.machine_model.specs.Run.Advance.{Onward, Over}
 use Rattle.machine_model.specs.Setting.{Setting}
-use Rattle.machine_model.proofs.HoldCases.{IsTurn, each-hold}
+use Rattle.machine_model.proofs.HoldCases.{IsTurn, LeadsTo, each-hold}
 use Rattle.machine_model.proofs.Policies.{choice-enabled, choice-is_last, choice-unless_none}
 
 -- a hold adds turns, none of which is the held thread's
@@ -70,64 +69,22 @@ last-turn setting listed held course next choice ending is turns mode =
 
 pub held-waits : HeldThreadWaits
 held-waits most setting listed race first past course =
-    each-hold setting listed race first (λ most course ending. course.policy.mode ≡ Hold race.t1 → Adds race.t1 course.turns ending)
+    each-hold setting listed race first
+    (λ most past course ending. course.policy.mode ≡ Hold race.t1 → Adds race.t1 course.turns ending)
     (record {
-      spent = λ course mode. adds-none race.t1 course.turns (Ran (told course outcomes.Spent)) refl;
-      diverged = λ most course ended mode. adds-none race.t1 course.turns (NotEnforced Diverged course.turns) refl;
-      stuck = λ most course none mode. adds-none race.t1 course.turns (NotEnforced Stuck course.turns) refl;
-      over = λ most course next choice outcome is leads.
+      spent = λ past course mode. adds-none race.t1 course.turns (Ran (told course outcomes.Spent)) refl;
+      diverged = λ most past course ended mode. adds-none race.t1 course.turns (NotEnforced Diverged course) refl;
+      stuck = λ most past course none mode. adds-none race.t1 course.turns (NotEnforced Stuck course) refl;
+      over = λ most past course next choice outcome is leads.
           last-turn setting listed race.t1 course next choice (held_over next outcome) is (over-turns next outcome);
       done = λ most past course next choice is leads does.
-          last-turn setting listed race.t1 course next choice (Done past next) is refl;
-      repeated = λ most course next choice is.
-          last-turn setting listed race.t1 course next choice (NotEnforced Repeats next.turns) is refl;
-      onward = λ most course next choice ending is leads rest mode.
+          last-turn setting listed race.t1 course next choice (Done (past ++ snapshot next ∷ []) next) is refl;
+      repeated = λ most past course next choice is leads again.
+          last-turn setting listed race.t1 course next choice (NotEnforced Repeats next) is refl;
+      onward = λ most past course next choice ending is leads rest mode.
           adds-more race.t1 choice.thread course.turns ending (other-thread setting listed race.t1 course next choice is mode)
           (rw is.turns at rest (still-held setting listed race.t1 course next choice is mode));
     }) most past course
-
-over-undone : (next after : Course) (outcome : Outcome) (snapshots : List Snapshot) → held_over next outcome ≢ Done snapshots after
-over-undone next after (outcomes.Exit status) snapshots same = let h : ⊥ = cc in h
-over-undone next after (outcomes.Trap trap thread site) snapshots same = let h : ⊥ = cc in h
-over-undone next after outcomes.Deadlock snapshots same = let h : ⊥ = cc in h
-over-undone next after (outcomes.Repeats turn earlier) snapshots same = let h : ⊥ = cc in h
-over-undone next after outcomes.Spent snapshots same = let h : ⊥ = cc in h
-
--- the turn that did the second access
-abbrev Did : Setting → Race → Access → Course → Type 0
-Did setting race first after =
-    (last : Moment) × (does_second setting race first last ≡ true) × (after.turns ≡ last.before.turns ++ last.thread ∷ [])
-
-did-now : (setting : Setting) (listed : List ℕ) (race : Race) (first : Access) (past snapshots : List Snapshot)
-    (course next after : Course) (choice : Choice) → IsTurn setting listed course choice next →
-    does_second setting race first (record { before = course; thread = choice.thread }) ≡ true →
-    Done past next ≡ Done snapshots after → Did setting race first after
-did-now setting listed race first past snapshots course next after choice is does same =
-    let next_is : next ≡ after = cc in
-    (record { before = course; thread = choice.thread }, does, rw (← next_is) is.turns)
-
-pub done-did : DoneDidSecond
-done-did most setting listed race first past snapshots course after =
-    each-hold setting listed race first (λ most course ending. ending ≡ Done snapshots after → Did setting race first after)
-    (record {
-      spent = λ course same. absurd (let h : ⊥ = cc in h);
-      diverged = λ most course ended same. absurd (let h : ⊥ = cc in h);
-      stuck = λ most course none same. absurd (let h : ⊥ = cc in h);
-      over = λ most course next choice outcome is leads same. absurd (over-undone next after outcome snapshots same);
-      done = λ most past course next choice is leads does same.
-          did-now setting listed race first past snapshots course next after choice is does same;
-      repeated = λ most course next choice is same. absurd (let h : ⊥ = cc in h);
-      onward = λ most course next choice ending is leads rest. rest;
-    }) most past course
-
--- the only reason that a run's end gives is that it ended
-over-ended : (next : Course) (outcome : Outcome) (reason : Reason) (turns : List ℕ) →
-    held_over next outcome ≡ NotEnforced reason turns → reason ≡ Ended
-over-ended next (outcomes.Exit status) reason turns same = cc
-over-ended next (outcomes.Trap trap thread site) reason turns same = absurd (let h : ⊥ = cc in h)
-over-ended next outcomes.Deadlock reason turns same = absurd (let h : ⊥ = cc in h)
-over-ended next (outcomes.Repeats turn earlier) reason turns same = absurd (let h : ⊥ = cc in h)
-over-ended next outcomes.Spent reason turns same = absurd (let h : ⊥ = cc in h)
 
 -- a number that is not another than the held one is that one
 not-other : (thread held : ℕ) → ¬ (thread ≢ held) → thread ≡ held
@@ -144,46 +101,118 @@ All-implied P Q implies (thread ∷ threads) all =
     (All-implied P Q implies threads (All-tail P thread threads all))
 
 -- where none may be chosen, each enabled thread is the held one
-all-held : (setting : Setting) (listed : List ℕ) (held : ℕ) (course : Course) → course.policy.mode ≡ Hold held →
-    choose listed course.policy (enabled setting course.state) ≡ None →
+all-held : (setting : Setting) (listed : List ℕ) (held : ℕ) (course : Course) →
+    choose listed course.policy (enabled setting course.state) ≡ None → course.policy.mode ≡ Hold held →
     All (λ thread. thread ≡ held) (enabled setting course.state)
-all-held setting listed held course mode none =
+all-held setting listed held course none mode =
     let threads = enabled setting course.state in
     All-implied (Contains threads) (λ thread. thread ≡ held)
     (λ thread among. not-other thread held
     (rw mode at (choice-unless_none listed course.policy threads thread none among)))
     threads (All-contains_itself threads)
 
-pub stuck-is_stuck : StuckIsStuck
-stuck-is_stuck most setting listed race first past turns course =
-    each-hold setting listed race first
-    (λ most course ending. course.policy.mode ≡ Hold race.t1 → ending ≡ NotEnforced Stuck turns →
-    (there : Course) × (there.turns ≡ turns) × All (λ thread. thread ≡ race.t1) (enabled setting there.state))
-    (record {
-      spent = λ course mode same. absurd (let h : ⊥ = cc in h);
-      diverged = λ most course ended mode same. absurd (let h : ⊥ = cc in h);
-      stuck = λ most course none mode same.
-          (course, (let here : course.turns ≡ turns = cc in here), all-held setting listed race.t1 course mode none);
-      over = λ most course next choice outcome is leads mode same.
-          let ended = over-ended next outcome Stuck turns same in absurd (let h : ⊥ = cc in h);
-      done = λ most past course next choice is leads does mode same. absurd (let h : ⊥ = cc in h);
-      repeated = λ most course next choice is mode same. absurd (let h : ⊥ = cc in h);
-      onward = λ most course next choice ending is leads rest mode.
-          rest (still-held setting listed race.t1 course next choice is mode);
-    }) most past course
+advances : (setting : Setting) (listed : List ℕ) (course next : Course) (choice : Choice) (advance : Advance) →
+    IsTurn setting listed course choice next → LeadsTo setting course choice advance → advanced setting listed course ≡ advance
+unfolding advanced
+advances setting listed course next choice advance is leads = rw is.chosen leads
 
-pub diverged-has_ended : DivergedHasEnded
-diverged-has_ended most setting listed race first past turns course =
-    each-hold setting listed race first
-    (λ most course ending. ending ≡ NotEnforced Diverged turns →
-    (there : Course) × (there.turns ≡ turns) × (thread_has_ended (slice_get there.state.threads race.t2) ≡ true))
+abbrev came-at_once : (setting : Setting) (listed : List ℕ) (past : List Snapshot) (course : Course) →
+    CameTo setting listed past course course
+came-at_once setting listed past course = record { snapshots = past; comes = Here }
+
+-- the first turn of a hold, and what the hold after it gives
+module _ (setting : Setting) (listed : List ℕ) (past : List Snapshot) (course next : Course) (choice : Choice) (is : IsTurn setting listed course choice next) where
+  abbrev later-came : (after : Course) → LeadsTo setting course choice (Onward next) →
+      CameTo setting listed (past ++ snapshot next ∷ []) next after → CameTo setting listed past course after
+  later-came after leads came = record {
+    snapshots = came.snapshots;
+    comes = Later past course next (advances setting listed course next choice (Onward next) is leads) came.comes;
+  }
+
+  abbrev first-turn : (advance : Advance) → LeadsTo setting course choice advance → HoldTurn setting listed past course advance
+  first-turn advance leads = record {
+    before = course;
+    came = came-at_once setting listed past course;
+    choice = choice;
+    chosen = is.chosen;
+    leads = leads;
+  }
+
+  abbrev later-turn : (advance : Advance) → LeadsTo setting course choice (Onward next) →
+      HoldTurn setting listed (past ++ snapshot next ∷ []) next advance → HoldTurn setting listed past course advance
+  later-turn advance leads turn = record {
+    before = turn.before;
+    came = later-came turn.before leads turn.came;
+    choice = turn.choice;
+    chosen = turn.chosen;
+    leads = turn.leads;
+  }
+
+  repeated-cause : LeadsTo setting course choice (Onward next) → repeats past (snapshot next) ≡ true →
+      DidRepeat setting listed past course next
+  unfolding repeats
+  repeated-cause leads again = go (ltb 1 (length past)) (slice_get past (earlier_turn (length past))) refl refl again
+    where
+      go : (long : Bool) (found : Option Snapshot) → ltb 1 (length past) ≡ long →
+          slice_get past (earlier_turn (length past)) ≡ found → (long && is_repeat (snapshot next) found) ≡ true →
+          DidRepeat setting listed past course next
+      go false found short is again = absurd (let h : ⊥ = cc in h)
+      go true None long is again = absurd (let h : ⊥ = cc in h)
+      go true (Some earlier) long is again = record {
+        last = first-turn (Onward next) leads;
+        compared = ltb-true 1 (length past) long;
+        earlier = earlier;
+        is_earlier = is;
+        same = again;
+      }
+
+  over-cause : (race : Race) (first : Access) (outcome : Outcome) → LeadsTo setting course choice (Over next outcome) →
+      HasCause setting listed race first past course (held_over next outcome)
+  over-cause race first (outcomes.Exit status) leads = (status, first-turn (Over next (outcomes.Exit status)) leads)
+  over-cause race first (outcomes.Trap trap thread site) leads = tt
+  over-cause race first outcomes.Deadlock leads = tt
+  over-cause race first (outcomes.Repeats turn earlier) leads = tt
+  over-cause race first outcomes.Spent leads = tt
+
+  onward-cause : (race : Race) (first : Access) (ending : Held) → LeadsTo setting course choice (Onward next) →
+      HasCause setting listed race first (past ++ snapshot next ∷ []) next ending →
+      HasCause setting listed race first past course ending
+  onward-cause race first (Done snapshots after) leads cause = record {
+    last = later-turn (Onward after) leads cause.last;
+    does = cause.does;
+    noted = cause.noted;
+  }
+  onward-cause race first (NotEnforced Stuck after) leads cause =
+      (later-came after leads cause.0, λ mode. cause.1 (still-held setting listed race.t1 course next choice is mode))
+  onward-cause race first (NotEnforced Diverged after) leads cause = (later-came after leads cause.0, cause.1)
+  onward-cause race first (NotEnforced Repeats after) leads cause = record {
+    last = later-turn (Onward after) leads cause.last;
+    compared = cause.compared;
+    earlier = cause.earlier;
+    is_earlier = cause.is_earlier;
+    same = cause.same;
+  }
+  onward-cause race first (NotEnforced Ended after) leads cause =
+      (cause.0, later-turn (Over after (outcomes.Exit cause.0)) leads cause.1)
+  onward-cause race first (Ran run) leads cause = tt
+
+pub ends-have_causes : EndsHaveCauses
+ends-have_causes most setting listed race first past course =
+    each-hold setting listed race first (λ most past course ending. HasCause setting listed race first past course ending)
     (record {
-      spent = λ course same. absurd (let h : ⊥ = cc in h);
-      diverged = λ most course ended same. (course, (let here : course.turns ≡ turns = cc in here), ended);
-      stuck = λ most course none same. absurd (let h : ⊥ = cc in h);
-      over = λ most course next choice outcome is leads same.
-          let ended = over-ended next outcome Diverged turns same in absurd (let h : ⊥ = cc in h);
-      done = λ most past course next choice is leads does same. absurd (let h : ⊥ = cc in h);
-      repeated = λ most course next choice is same. absurd (let h : ⊥ = cc in h);
-      onward = λ most course next choice ending is leads rest. rest;
+      spent = λ past course. tt;
+      diverged = λ most past course ended. (came-at_once setting listed past course, ended);
+      stuck = λ most past course none.
+          (came-at_once setting listed past course, all-held setting listed race.t1 course none);
+      over = λ most past course next choice outcome is leads.
+          over-cause setting listed past course next choice is race first outcome leads;
+      done = λ most past course next choice is leads does. record {
+        last = first-turn setting listed past course next choice is (Onward next) leads;
+        does = does;
+        noted = refl;
+      };
+      repeated = λ most past course next choice is leads again.
+          repeated-cause setting listed past course next choice is leads again;
+      onward = λ most past course next choice ending is leads rest.
+          onward-cause setting listed past course next choice is race first ending leads rest;
     }) most past course

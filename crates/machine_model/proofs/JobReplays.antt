@@ -97,9 +97,9 @@ from_turn-head P thread number (moment ∷ later) all =
     (λ other. from_turn-head P thread number later rest)
 
 -- turns lead to the hold point, and there the first thread can be chosen, whatever the others do
-record IsPoint (setting : Setting) (start : Course) (race : Race) (point : HoldPoint) : Type 0 where
-  leads : Leads setting start point.course
-  ready : Ready setting point.course.state.threads race.t1
+pub record IsPoint (setting : Setting) (start : Course) (race : Race) (point : HoldPoint) : Type 0 where
+  pub leads : Leads setting start point.course
+  pub ready : Ready setting point.course.state.threads race.t1 point.first
 
 point-in : (setting : Setting) (start : Course) (race : Race) (point : HoldPoint) (moments found : List Moment) →
     HeadIs (Comes setting start) race.t1 found → point_in setting moments found ≡ Some point →
@@ -116,15 +116,16 @@ point-in setting start race point moments (moment ∷ later) head is = go (acces
     go (Some access) accesses is =
         let same : record { past = past; course = moment.before; first = access } ≡ point = cc in
         let here : point.course ≡ moment.before = ap (λ (one : HoldPoint). one.course) (sym same) in
+        let first : point.first ≡ access = ap (λ (one : HoldPoint). one.first) (sym same) in
         record {
           leads = rw here head.0.leads;
-          ready = rw (here, ← head.1) (moment-ready setting moment access head.0.among accesses);
+          ready = rw (here, first, ← head.1) (moment-ready setting moment access head.0.among accesses);
         }
 
 -- what a hold leads to from a course on
-abbrev Resumes : Setting → ℕ → Course → Held → Type 0
+abbrev pub Resumes : Setting → ℕ → Course → Held → Type 0
 Resumes setting held course (Done past after) = Leads setting course after × Keeps held course.state.threads after.state.threads
-Resumes setting held course (NotEnforced reason turns) = Unit {0}
+Resumes setting held course (NotEnforced reason after) = Unit {0}
 Resumes setting held course (Ran run) = Begins course.turns run.turns × Returns setting run.turns course run
 
 among : (setting : Setting) (listed : List ℕ) (course next : Course) (choice : Choice) →
@@ -173,26 +174,26 @@ onward-resumes setting held course next (Done past after) first rest = (
   leads-on setting course next after first.0 rest.0,
   keeps-on held course.state.threads next.state.threads after.state.threads first.1 rest.1,
 )
-onward-resumes setting held course next (NotEnforced reason turns) first rest = tt
+onward-resumes setting held course next (NotEnforced reason after) first rest = tt
 onward-resumes setting held course next (Ran run) first rest =
     (Begins-on course.turns next.turns run.turns first.0.begins rest.0, first.0.back run.turns run rest.0 rest.1)
 
-hold-resumes : (most : ℕ) (setting : Setting) (listed : List ℕ) (race : Race) (first : Access) (past : List Snapshot)
+pub hold-resumes : (most : ℕ) (setting : Setting) (listed : List ℕ) (race : Race) (first : Access) (past : List Snapshot)
     (course : Course) → course.left < most → course.policy.mode ≡ Hold race.t1 →
     Resumes setting race.t1 course (held_from most setting listed race first past course)
 hold-resumes most setting listed race first past course =
     each-hold setting listed race first
-    (λ most course ending. course.left < most → course.policy.mode ≡ Hold race.t1 → Resumes setting race.t1 course ending)
+    (λ most past course ending. course.left < most → course.policy.mode ≡ Hold race.t1 → Resumes setting race.t1 course ending)
     (record {
-      spent = λ course less mode. absurd (omega arith);
-      diverged = λ most course ended less mode. tt;
-      stuck = λ most course none less mode. tt;
-      over = λ most course next choice outcome is leads less mode.
+      spent = λ past course less mode. absurd (omega arith);
+      diverged = λ most past course ended less mode. tt;
+      stuck = λ most past course none less mode. tt;
+      over = λ most past course next choice outcome is leads less mode.
           over-resumes setting listed race.t1 course next choice outcome is leads;
       done = λ most past course next choice is leads does less mode.
           next-turn setting listed race.t1 course next choice is leads mode;
-      repeated = λ most course next choice is less mode. tt;
-      onward = λ most course next choice ending is leads rest less mode.
+      repeated = λ most past course next choice is leads again less mode. tt;
+      onward = λ most past course next choice ending is leads rest less mode.
           onward-resumes setting race.t1 course next ending
           (next-turn setting listed race.t1 course next choice is leads mode)
           (rest (turn-less setting course next choice most leads less)
@@ -200,34 +201,34 @@ hold-resumes most setting listed race first past course =
     }) most past course
 
 -- after the hold the first thread can be chosen, so the run is taken again
-released-returns : (setting : Setting) (listed again : List ℕ) (race : Race) (past : List Snapshot) (course : Course) (run : Run) →
-    Ready setting course.state.threads race.t1 →
+released-returns : (setting : Setting) (listed again : List ℕ) (race : Race) (first : Access) (course : Course) (run : Run) →
+    Ready setting course.state.threads race.t1 first →
     run_from (course.left + 1) setting listed (released_course race.t1 course) ≡ run → again ≡ run.turns →
     Begins course.turns again × Returns setting again course run
-released-returns setting listed again race past course run ready is same =
+released-returns setting listed again race first course run ready is same =
     let released = released_course race.t1 course in
     let begins = run_from-begins (course.left + 1) setting listed released in
-    let among = ready-enabled setting course.state race.t1 ready in
+    let among = ready-enabled setting course.state race.t1 first ready in
     let returns = run-returns (course.left + 1) setting listed again released (omega arith) tt
     (λ none thread other. choice-unless_none listed released.policy (enabled setting course.state) race.t1 none among refl)
     (rw is same) in
     (rw (same, ← is) begins, rw (← is) returns)
 
-ending-returns : (setting : Setting) (listed : List ℕ) (race : Race) (course : Course) (ending : Held) (run : Run) →
-    Ready setting course.state.threads race.t1 → Resumes setting race.t1 course ending →
+ending-returns : (setting : Setting) (listed : List ℕ) (race : Race) (first : Access) (course : Course) (ending : Held)
+    (run : Run) → Ready setting course.state.threads race.t1 first → Resumes setting race.t1 course ending →
     alternate_after setting listed race (Some ending) ≡ Runs run → ¬ IsRepeat run.outcome →
     Begins course.turns run.turns × Returns setting run.turns course run
-ending-returns setting listed race course (Done past after) run ready resumes is never =
+ending-returns setting listed race first course (Done past after) run ready resumes is never =
     let ran : tested_on setting listed past (released_course race.t1 after) ≡ run = cc in
     let untested : run_from (after.left + 1) setting listed (released_course race.t1 after) ≡ run =
     sym (tested-agrees (after.left + 1) setting listed past (released_course race.t1 after) (rw ran never)) ∙ ran in
-    let rest = released-returns setting listed run.turns race past after run
-    (ready-kept setting race.t1 course.state.threads after.state.threads resumes.1 ready) untested refl in (
+    let rest = released-returns setting listed run.turns race first after run
+    (ready-kept setting race.t1 first course.state.threads after.state.threads resumes.1 ready) untested refl in (
       Begins-on course.turns after.turns run.turns resumes.0.begins rest.0,
       resumes.0.back run.turns run rest.0 rest.1,
     )
-ending-returns setting listed race course (NotEnforced reason turns) run ready resumes is never = absurd (let h : ⊥ = cc in h)
-ending-returns setting listed race course (Ran other) run ready resumes is never =
+ending-returns setting listed race first course (NotEnforced reason after) run ready resumes is never = absurd (let h : ⊥ = cc in h)
+ending-returns setting listed race first course (Ran other) run ready resumes is never =
     let same : other ≡ run = cc in rw (← same) resumes
 
 -- from the start on
@@ -239,7 +240,7 @@ unfolding run_of
 point-returns setting listed race steps point run at is never =
     let course = held_course race.t1 point.course in
     let resumes = hold-resumes (point.course.left + 1) setting listed race point.first point.past course (omega arith) refl in
-    let returns = ending-returns setting listed race course (held_on setting listed race point) run at.ready resumes is never in
+    let returns = ending-returns setting listed race point.first course (held_on setting listed race point) run at.ready resumes is never in
     at.leads.back run.turns run returns.0 returns.1 (steps + 1) from_front (omega arith) (refl, refl)
 
 held-returns : (setting : Setting) (listed : List ℕ) (race : Race) (steps : ℕ) (run : Run) (reaches : Bool)
@@ -252,7 +253,7 @@ held-returns setting listed race steps run true None at is never = absurd (let h
 held-returns setting listed race steps run true (Some point) at is never =
     point-returns setting listed race steps point run (at point refl) is never
 
-hold_point-is : (code : Module) (case : Case) (race : Race) (input : Input) (point : HoldPoint) →
+pub hold_point-is : (code : Module) (case : Case) (race : Race) (input : Input) (point : HoldPoint) →
     hold_point code case race input ≡ Some point →
     IsPoint (setting_of code case input) (begun (setting_of code case input) case.steps) race point
 unfolding hold_point moments_of

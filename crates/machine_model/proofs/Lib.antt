@@ -10,6 +10,7 @@ pub mod JobReplays
 pub mod Larger
 pub mod Leading
 pub mod Moments
+pub mod OtherOrder
 pub mod Payment
 pub mod Policies
 pub mod PolicyEquality

@@ -22,12 +22,12 @@ use Rattle.machine_model.specs.Thread.{has_ended, top}
 use Rattle.machine_model.proofs.Choices.{Contains-later}
 use Rattle.machine_model.proofs.Waiting.{Keeps}
 
--- the thread of this number has not ended, and its operation never has to wait
-pub record Ready (setting : Setting) (threads : List Thread) (number : ℕ) : Type 0 where
+-- the thread of this number has not ended, and waits to do an access
+pub record Ready (setting : Setting) (threads : List Thread) (number : ℕ) (access : Access) : Type 0 where
   pub thread : Thread
   pub is : slice_get threads number ≡ Some thread
   pub lasts : has_ended thread ≡ false
-  pub runs : (state : State) → waits setting state thread thread.pending ≡ false
+  pub accesses : access_of (pending_operation setting.code thread thread.pending) ≡ Some access
 
 -- an access never has to wait
 inst-runs : (state : State) (site : Site) (decided : List ℕ) (inst : Inst) (access : Access) →
@@ -56,25 +56,31 @@ access-runs setting state thread (At site decided) access is = frame-runs settin
 access-runs setting state thread (CondReturn site decided) access is = refl
 access-runs setting state thread Nothing access is = refl
 
--- what waits is what the thread's frames say
-joined-alike : (setting : Setting) (state : State) (thread : Thread) (joined : Bool) (operation : Operation) →
-    waits setting state (record thread { joined = joined }) operation ≡ waits setting state thread operation
-unfolding waits
-joined-alike setting state thread joined Start = refl
-joined-alike setting state thread joined (At site decided) = refl
-joined-alike setting state thread joined (CondReturn site decided) = refl
-joined-alike setting state thread joined Nothing = refl
+-- what a thread waits to do is what its frames say
+joined-alike : (setting : Setting) (thread : Thread) (joined : Bool) (operation : Operation) →
+    pending_operation setting.code (record thread { joined = joined }) operation
+    ≡ pending_operation setting.code thread operation
+unfolding pending_operation
+joined-alike setting thread joined Start = refl
+joined-alike setting thread joined (At site decided) = refl
+joined-alike setting thread joined (CondReturn site decided) = refl
+joined-alike setting thread joined Nothing = refl
 
-pub ready-kept : (setting : Setting) (number : ℕ) (before after : List Thread) → Keeps number before after →
-    Ready setting before number → Ready setting after number
-ready-kept setting number before after keeps ready =
+pub ready-kept : (setting : Setting) (number : ℕ) (access : Access) (before after : List Thread) →
+    Keeps number before after → Ready setting before number access → Ready setting after number access
+ready-kept setting number access before after keeps ready =
     let kept = keeps ready.thread ready.is in
     record {
       thread = record ready.thread { joined = kept.0 };
       is = kept.1;
       lasts = ready.lasts;
-      runs = λ state. joined-alike setting state ready.thread kept.0 ready.thread.pending ∙ ready.runs state;
+      accesses = ap access_of (joined-alike setting ready.thread kept.0 ready.thread.pending) ∙ ready.accesses;
     }
+
+-- so it still waits to do that
+pub ready-waits : (setting : Setting) (state : State) (number : ℕ) (access : Access) →
+    Ready setting state.threads number access → access_of (pending setting.code state number) ≡ Some access
+ready-waits setting state number access ready = rw ready.is ready.accesses
 
 -- what passes is kept
 Contains-filtered : (test : ℕ → Bool) (threads : List ℕ) (thread : ℕ) → Contains threads thread → test thread ≡ true →
@@ -89,16 +95,16 @@ Contains-filtered test (first ∷ others) thread (suc place, within, is) passes 
     go true later = Contains-later first (filter test others) thread later
     go false later = later
 
--- so it is one of the enabled threads
-pub ready-enabled : (setting : Setting) (state : State) (number : ℕ) → Ready setting state.threads number →
-    Contains (enabled setting state) number
+-- and it is one of the enabled threads
+pub ready-enabled : (setting : Setting) (state : State) (number : ℕ) (access : Access) →
+    Ready setting state.threads number access → Contains (enabled setting state) number
 unfolding enabled is_enabled
-ready-enabled setting state number ready =
+ready-enabled setting state number access ready =
     let count = length state.threads in
     let within = slice_get_within state.threads number ready.thread ready.is in
     let long = length-range_with_len 0 count in
     let passes : may_run setting state (slice_get state.threads number) ≡ true =
-    rw (ready.is, ready.lasts, ready.runs state) refl in
+    rw (ready.is, ready.lasts, access-runs setting state ready.thread ready.thread.pending access ready.accesses) refl in
     Contains-filtered (is_enabled setting state) (range_with_len 0 count) number
     (number, omega (arith, within, long), get_or-range_with_len 0 count number number within ∙ zero-add number) passes
 
@@ -109,13 +115,13 @@ not-ended false waits is = refl
 -- a thread that may run, with an access pending, is ready
 access-ready : (setting : Setting) (state : State) (number : ℕ) (access : Access) (thread : Option Thread) →
     slice_get state.threads number ≡ thread → may_run setting state thread ≡ true →
-    access_of (pending_of setting.code thread) ≡ Some access → Ready setting state.threads number
+    access_of (pending_of setting.code thread) ≡ Some access → Ready setting state.threads number access
 access-ready setting state number access None is runs accesses = absurd (let h : ⊥ = cc in h)
 access-ready setting state number access (Some thread) is runs accesses = record {
   thread = thread;
   is = is;
   lasts = not-ended (has_ended thread) (waits setting state thread thread.pending) runs;
-  runs = λ other. access-runs setting other thread thread.pending access accesses;
+  accesses = accesses;
 }
 
 accesses-unless : (spent : Bool) (found : Option Access) (access : Access) → cond spent None found ≡ Some access →
@@ -134,7 +140,7 @@ may-run setting state number among =
 -- so is the thread of a turn that does an access
 pub moment-ready : (setting : Setting) (moment : Moment) (access : Access) →
     Contains (enabled setting moment.before.state) moment.thread → access_at setting moment ≡ Some access →
-    Ready setting moment.before.state.threads moment.thread
+    Ready setting moment.before.state.threads moment.thread access
 moment-ready setting moment access among accesses =
     let state = moment.before.state in
     access-ready setting state moment.thread access (slice_get state.threads moment.thread) refl

@@ -22,14 +22,14 @@ use Rattle.machine_model.specs.Thread.{has_ended}
 pub data Held : Type 0 where
   -- the second access was done: the snapshots after all turns so far, and the course after the last of them
   Done : List Snapshot → Course → Held
-  -- the second order can't be enforced; these turns were taken
-  NotEnforced : Reason → List ℕ → Held
+  -- the second order can't be enforced: why, and the course that shows it
+  NotEnforced : Reason → Course → Held
   -- the run is over before that
   Ran : Run → Held
 
 -- a turn that ends the process ends the hold, and one that traps or is cut ends the run
 abbrev pub held_over : Course → Outcome → Held
-held_over course (outcomes.Exit status) = NotEnforced Ended course.turns
+held_over course (outcomes.Exit status) = NotEnforced Ended course
 held_over course outcome = Ran (told course outcome)
 
 -- after a turn, of which `done` tells whether it did the second access
@@ -38,11 +38,11 @@ held_after go past done (Over course outcome) = held_over course outcome
 held_after go past done (Onward course) =
     let now = snapshot course in
     if done then Done (past ++ now ∷ []) course
-    else if repeats past now then NotEnforced Repeats course.turns
+    else if repeats past now then NotEnforced Repeats course
     else go (past ++ now ∷ []) course
 
 abbrev pub held_with : (List Snapshot → Course → Held) → Setting → Race → Access → List Snapshot → Course → Option Choice → Held
-held_with go setting race first past course None = NotEnforced Stuck course.turns
+held_with go setting race first past course None = NotEnforced Stuck course
 held_with go setting race first past course (Some choice) =
     held_after go past (does_second setting race first (record { before = course; thread = choice.thread }))
     (advanced_with setting course (Some choice))
@@ -55,6 +55,6 @@ thread_has_ended (Some thread) = has_ended thread
 unfoldable pub held_from : ℕ → Setting → List ℕ → Race → Access → List Snapshot → Course → Held
 held_from zero setting listed race first past course = Ran (told course outcomes.Spent)
 held_from (suc most) setting listed race first past course =
-    if thread_has_ended (slice_get course.state.threads race.t2) then NotEnforced Diverged course.turns
+    if thread_has_ended (slice_get course.state.threads race.t2) then NotEnforced Diverged course
     else held_with (held_from most setting listed race first) setting race first past course
     (choose listed course.policy (enabled setting course.state))

@@ -78,7 +78,7 @@ abbrev pub alternate_after : Setting → List ℕ → Race → Option Held → A
 alternate_after setting listed race None = Absent
 alternate_after setting listed race (Some (Done past course)) =
     Runs (tested_on setting listed past (released_course race.t1 course))
-alternate_after setting listed race (Some (NotEnforced reason turns)) = Not reason turns
+alternate_after setting listed race (Some (NotEnforced reason course)) = Not reason course.turns
 alternate_after setting listed race (Some (Ran run)) = Runs run
 
 -- the alternate of this input whose schedule follows the recorded turns

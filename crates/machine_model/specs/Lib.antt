@@ -16,6 +16,7 @@ pub mod Laws
 pub mod Memory
 pub mod Moment
 pub mod Operation
+pub mod OtherOrder
 pub mod Policy
 pub mod PolicyLaws
 pub mod Primary

@@ -5,11 +5,12 @@ ghost use Rattle.std.specs.Prelude.{◌≡◌, ℕ, [], ◌∷◌, Some, length,
 ghost use Rattle.std.specs.List.{range_with_len};
 ghost use Rattle.ir_types.specs.declared.input.Input.{Input};
 ghost use Rattle.machine_model.specs.Example.{cut_at_end, cut_in_thread, run_within, turn_counts, whole};
-ghost use Rattle.machine_model.specs.HoldLaws.{DivergedHasEnded, DoneDidSecond, HeldThreadWaits, StuckIsStuck};
+ghost use Rattle.machine_model.specs.HoldLaws.{EndsHaveCauses, HeldThreadWaits};
 ghost use Rattle.machine_model.specs.Job.Alternate.{Not};
 ghost use Rattle.machine_model.specs.JobLaws.{MomentsAreTurns, UnrepeatedIsRun};
 ghost use Rattle.machine_model.specs.JobReplays.{AlternateReplays, PrimaryJobReplays};
 ghost use Rattle.machine_model.specs.Laws.{LargerBudgetKeepsRun, RunIsWithinBudget, RunNeedsNoMore, StoredIsLoaded, TurnNeedsNoMore};
+ghost use Rattle.machine_model.specs.OtherOrder.{OrderIsTurnedRound};
 ghost use Rattle.machine_model.specs.PolicyLaws.{ChoiceIsEnabled, ChoiceIsLast, ChoosesUnlessNone, ListedIsChosen, ReleaseKeepsPlace, TakesTurns};
 ghost use Rattle.machine_model.specs.RaceExample.{both_turns, first_turns, leaving_alternate, ordered_alternate, other_order, printed_byte, prints, recorded_order, turned_by_numbers, turned_round, up_to_join};
 ghost use Rattle.machine_model.specs.RepeatLaws.{EarlierTurnIsPower, SamePolicyIsEqual, SameStateIsEqual};
@@ -65,13 +66,18 @@ pub fn turns_give_the_run()
     chooser_follows_the_list();
 }
 
-/// The held thread takes no turn in its hold, which is done with a turn that does the race's second access. It is
-/// stuck only where no other thread is enabled, and diverged only where the second thread has ended.
+/// The held thread takes no turn in its hold. The hold is done with a turn that does the race's second access; it is
+/// stuck where no other thread is enabled, has diverged where the second thread has ended, repeats where its last
+/// turn left what an earlier one left, and has ended where its last turn ended the process.
 pub fn hold_enforces_the_order()
     ensures waits { HeldThreadWaits }
-    ensures done { DoneDidSecond }
-    ensures stuck { StuckIsStuck }
-    ensures diverged { DivergedHasEnded }
+    ensures causes { EndsHaveCauses }
+{}
+
+/// After a hold that is done the thread that was held is chosen, and does the first access, which the second one
+/// overlaps.
+pub fn order_is_turned_round()
+    ensures { OrderIsTurnedRound }
 {}
 
 /// The turns of a job's run, recorded, give the same run again, also where a thread was held on the way. Only a run

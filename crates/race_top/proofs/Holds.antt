@@ -74,5 +74,5 @@ pub ready-within : (code : Module) (case : Case) (left more turns most : ℕ) (e
     left ≤ more → turns ≤ most → IsReady code case left turns enforced → IsReady code case more most enforced
 ready-within code case left more turns most (answers.Ready course past) fewer short ready =
     (ready.0, omega (arith, ready.1), omega (arith, ready.2))
-ready-within code case left more turns most (answers.Not reason taken) fewer short ready = tt
+ready-within code case left more turns most (answers.Not reason course) fewer short ready = tt
 ready-within code case left more turns most (answers.Ended run) fewer short ready = tt

@@ -58,7 +58,7 @@ point-reached code case race input reaches =
 after-held : (setting : Setting) (listed : List ℕ) (race : Race) (held : Held) →
     alternate_after setting listed race (Some held) ≢ Absent
 after-held setting listed race (Done past course) absent = let h : ⊥ = cc in h
-after-held setting listed race (NotEnforced reason turns) absent = let h : ⊥ = cc in h
+after-held setting listed race (NotEnforced reason course) absent = let h : ⊥ = cc in h
 after-held setting listed race (Ran run) absent = let h : ⊥ = cc in h
 
 present : (code : Module) (case : Case) (race : Race) (input : Input) → Reaches code case race input ≡ true →

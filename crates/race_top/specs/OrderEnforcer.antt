@@ -27,14 +27,14 @@ FindsPoint (Some found) point =
 abbrev pub Enforces : Enforced → Held → Type 0
 Enforces (answers.Ready course past) held =
     (snapshots : List Snapshot) × Recalls snapshots past × (held ≡ Done snapshots (course_of course))
-Enforces (answers.Not reason turns) held = held ≡ NotEnforced reason turns
+Enforces (answers.Not reason course) held = held ≡ NotEnforced reason (course_of course)
 Enforces (answers.Ended run) held = held ≡ Ran run
 
 -- where it is done, the run goes on with no more steps and at most so many turns
 abbrev pub IsReady : Module → Case → ℕ → ℕ → Enforced → Type 0
 IsReady code case left turns (answers.Ready course past) =
     IsOf code case course × (course.left ≤ left) × (past.turns ≤ turns)
-IsReady code case left turns (answers.Not reason taken) = Unit {0}
+IsReady code case left turns (answers.Not reason course) = Unit {0}
 IsReady code case left turns (answers.Ended run) = Unit {0}
 
 abbrev pub alternate_of : Answer → Alternate

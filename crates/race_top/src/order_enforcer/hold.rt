@@ -20,7 +20,7 @@ use crate::access::Access;
 use crate::course::{Advance, Course};
 use crate::order_enforcer::past::Past;
 use ir_types::{Input, Module};
-use machine_model::{Case, Outcome, Race, Reason, Run, Turns};
+use machine_model::{Case, Outcome, Race, Reason, Run};
 use rc_base::{NoMemory, Steps};
 use std::sync::ledger::Ledger;
 
@@ -29,8 +29,8 @@ use std::sync::ledger::Ledger;
 pub enum Enforced {
     /// The second access was done, and the first is pending.
     Ready { course: Course, past: Past },
-    /// The order can't be enforced; these turns were taken.
-    Not { reason: Reason, turns: Turns },
+    /// The order can't be enforced, as this course shows.
+    Not { reason: Reason, course: Course },
     /// The run is over.
     Ended(Run),
 }
@@ -69,7 +69,7 @@ fn end_hold(last: Course, outcome: Outcome) -> Enforced
     match outcome {
         Outcome::Exit { .. } => Enforced::Not {
             reason: Reason::Ended,
-            turns: last.turns.into(),
+            course: last,
         },
         _ => Enforced::Ended(last.tell(outcome)),
     }
@@ -77,12 +77,9 @@ fn end_hold(last: Course, outcome: Outcome) -> Enforced
 
 /// The order can't be enforced, for this reason.
 fn give_up(course: Course, reason: Reason) -> HoldAdvance
-    ensures { result ≡ advances.Over (answers.Not reason course.turns.items) }
+    ensures { result ≡ advances.Over (answers.Not reason course) }
 {
-    HoldAdvance::Over(Enforced::Not {
-        reason,
-        turns: course.turns.into(),
-    })
+    HoldAdvance::Over(Enforced::Not { reason, course })
 }
 
 /// What a turn leads to after which the run goes on; `done` tells whether it did the second access.

@@ -87,7 +87,10 @@ fn after_hold<L: Ledger>(
             let run = run_tested(course, past, code, case, input, steps)?;
             Ok(Alternate::Ran(run))
         }
-        Enforced::Not { reason, turns } => Ok(Alternate::Not { reason, turns }),
+        Enforced::Not { reason, course } => Ok(Alternate::Not {
+            reason,
+            turns: course.turns.into(),
+        }),
         Enforced::Ended(run) => Ok(Alternate::Ran(run)),
     }
 }

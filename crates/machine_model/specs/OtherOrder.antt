@@ -1,0 +1,32 @@
+-- What a hold is for: after it the race's accesses come in the other order.
+use Rattle.std.specs.Prelude.{◌≡◌, ℕ, List, Some}
+use Rattle.ir_types.specs.declared.input.Input.{Input}
+use Rattle.ir_types.specs.declared.«module».Module.{Module}
+use Rattle.machine_model.specs.declared.case.Case.{Case}
+use Rattle.machine_model.specs.declared.race.Race.{Race}
+use Rattle.machine_model.specs.Access.{access_of, pending}
+use Rattle.machine_model.specs.Enabled.{enabled}
+use Rattle.machine_model.specs.Hold.Held.{Done}
+use Rattle.machine_model.specs.HoldLaws.{DidSecond}
+use Rattle.machine_model.specs.Job.{HoldPoint, held_course, held_on, hold_point, released_course}
+use Rattle.machine_model.specs.Policy.{Choice, choose}
+use Rattle.machine_model.specs.Primary.{setting_of}
+use Rattle.machine_model.specs.Repeat.{Snapshot}
+use Rattle.machine_model.specs.Run.{Course}
+use Rattle.machine_model.specs.Setting.{Setting}
+
+-- the last turn of the hold did the second access, which overlaps the first; the next turn of the alternate is the
+-- held thread's, and it still waits to do the first
+pub record IsTurnedRound (setting : Setting) (listed : List ℕ) (race : Race) (point : HoldPoint) (snapshots : List Snapshot) (after : Course) : Type 0 where
+  pub second : DidSecond setting listed race point.first point.past snapshots (held_course race.t1 point.course) after
+  pub choice : Choice
+  pub chosen : choose listed (released_course race.t1 after).policy (enabled setting after.state) ≡ Some choice
+  pub is_first : choice.thread ≡ race.t1
+  pub waits : access_of (pending setting.code after.state race.t1) ≡ Some point.first
+
+abbrev pub OrderIsTurnedRound : Type 0
+OrderIsTurnedRound =
+    (code : Module) (case : Case) (race : Race) (input : Input) (point : HoldPoint) (snapshots : List Snapshot) (after : Course) →
+    hold_point code case race input ≡ Some point →
+    held_on (setting_of code case input) case.turns race point ≡ Done snapshots after →
+    IsTurnedRound (setting_of code case input) case.turns race point snapshots after
