@@ -38,8 +38,8 @@ use Rattle.machine_model.proofs.Leading.{Begins-on, IsEnabled, Leads, Returns, e
 use Rattle.machine_model.proofs.Policies.{choice-enabled, choice-is_last, choice-listed, choice-unless_none}
 use Rattle.machine_model.proofs.Released.{Ready, moment-ready, ready-enabled, ready-kept}
 use Rattle.machine_model.proofs.Replays.{Begins, Begins-itself, run_from-begins, run_of-turns}
-use Rattle.machine_model.proofs.RunReturns.{run-returns, tested-agrees}
-use Rattle.machine_model.proofs.Unrepeated.{unrepeated-is_run}
+use Rattle.machine_model.proofs.RunReturns.{run-returns}
+use Rattle.machine_model.proofs.Unrepeated.{tested_from-agrees, unrepeated-is_run}
 use Rattle.machine_model.proofs.Waiting.{Keeps, keeps-on, turn-keeps}
 
 -- turns lead to each moment of a run, and its thread is enabled there
@@ -221,7 +221,7 @@ ending-returns : (setting : Setting) (listed : List ℕ) (race : Race) (first : 
 ending-returns setting listed race first course (Done past after) run ready resumes is never =
     let ran : tested_on setting listed past (released_course race.t1 after) ≡ run = cc in
     let untested : run_from (after.left + 1) setting listed (released_course race.t1 after) ≡ run =
-    sym (tested-agrees (after.left + 1) setting listed past (released_course race.t1 after) (rw ran never)) ∙ ran in
+    sym (tested_from-agrees (after.left + 1) setting listed past (released_course race.t1 after) (rw ran never)) ∙ ran in
     let rest = released-returns setting listed run.turns race first after run
     (ready-kept setting race.t1 first course.state.threads after.state.threads resumes.1 ready) untested refl in (
       Begins-on course.turns after.turns run.turns resumes.0.begins rest.0,

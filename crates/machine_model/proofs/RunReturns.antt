@@ -1,20 +1,15 @@
--- A run from a course on, given back as the list, is taken again; so is one with the repeat test that repeats no turn.
-use Rattle.std.proofs.Common.{◌≡◌, ℕ, zero, suc, ◌<◌, Bool, true, false, cond, List, ◌∷◌, [], ◌++◌, length, Option, Some, None, refl, arith}
+-- A run from a course on, given back as the list, is taken again.
+use Rattle.std.proofs.Common.{◌≡◌, ℕ, zero, suc, ◌<◌, List, Option, Some, None, refl, arith}
 use Rattle.machine_model.specs.declared.mode.Mode.{Mode}
 use Rattle.machine_model.specs.declared.mode.Mode.TheVariants.{Before, Hold, After}
-use Rattle.machine_model.specs.declared.run.Outcome.TheVariants as outcomes
 use Rattle.machine_model.specs.declared.run.Run.{Run}
 use Rattle.machine_model.specs.declared.run.TurnEnd.{TurnEnd}
 use Rattle.machine_model.specs.declared.run.TurnEnd.TheVariants as ends
 use Rattle.machine_model.specs.Enabled.{enabled}
-use Rattle.machine_model.specs.JobLaws.{IsRepeat}
 use Rattle.machine_model.specs.Policy.{Choice, choose}
 use Rattle.machine_model.specs.PolicyLaws.{MayChoose, mode_after}
-use Rattle.machine_model.specs.Repeat.{Snapshot, earlier_turn, repeats, snapshot}
-use Rattle.machine_model.specs.Run.{Advance, Course, advanced, advanced_by, advanced_with, onward_or_told, run_from, told}
-use Rattle.machine_model.specs.Run.Advance.{Onward, Over}
+use Rattle.machine_model.specs.Run.{Course, advanced, advanced_by, advanced_with, onward_or_told, run_from}
 use Rattle.machine_model.specs.Setting.{Setting}
-use Rattle.machine_model.specs.TestedRun.{tested_after, tested_from}
 use Rattle.machine_model.proofs.Accounts.{turn-balances}
 use Rattle.machine_model.proofs.Leading.{AdvanceReturns, IsEnabled, Returns, end_of, listed-next, next_course, returns-none, returns-turn}
 use Rattle.machine_model.proofs.Policies.{choice-enabled, choice-is_last, choice-unless_none}
@@ -93,33 +88,3 @@ run-returns (suc most) setting listed again course less free finds same =
         (choice-enabled listed course.policy threads choice found).0
         (listed-next course.turns choice.thread again (rw same begins))
         (by_end rest choice found (end_of setting course choice) refl same)
-
--- from here on the runs are the same, unless the tested one repeats a turn
-abbrev Agree : (List Snapshot → Course → Run) → (Course → Run) → Type 0
-Agree tested go =
-    (past : List Snapshot) (course : Course) → ¬ IsRepeat (tested past course).outcome → tested past course ≡ go course
-
-tested_after-agrees : (tested : List Snapshot → Course → Run) (go : Course → Run) (past : List Snapshot)
-    (advance : Advance) → Agree tested go → ¬ IsRepeat (tested_after tested past advance).outcome →
-    tested_after tested past advance ≡ onward_or_told go advance
-tested_after-agrees tested go past (Over course outcome) agree never = refl
-tested_after-agrees tested go past (Onward course) agree never = by_repeat (repeats past (snapshot course)) never
-  where
-    ended : Run
-    ended = told course (outcomes.Repeats (length past) (earlier_turn (length past)))
-
-    later : Run
-    later = tested (past ++ snapshot course ∷ []) course
-
-    by_repeat : (repeat : Bool) → ¬ IsRepeat (cond repeat ended later).outcome → cond repeat ended later ≡ go course
-    by_repeat true never = absurd (never tt)
-    by_repeat false never = agree (past ++ snapshot course ∷ []) course never
-
-pub tested-agrees : (most : ℕ) (setting : Setting) (listed : List ℕ) (past : List Snapshot) (course : Course) →
-    ¬ IsRepeat (tested_from most setting listed past course).outcome →
-    tested_from most setting listed past course ≡ run_from most setting listed course
-unfolding tested_from run_from
-tested-agrees zero setting listed past course never = refl
-tested-agrees (suc most) setting listed past course never =
-    tested_after-agrees (tested_from most setting listed) (run_from most setting listed) past
-    (advanced setting listed course) (tested-agrees most setting listed) never

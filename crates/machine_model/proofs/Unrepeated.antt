@@ -31,7 +31,7 @@ tested_after-agrees tested go past (Onward course) agree never = by_repeat (repe
     by_repeat true never = absurd (never tt)
     by_repeat false never = agree (past ++ snapshot course ∷ []) course never
 
-tested_from-agrees : (most : ℕ) (setting : Setting) (listed : List ℕ) →
+pub tested_from-agrees : (most : ℕ) (setting : Setting) (listed : List ℕ) →
     Agree (tested_from most setting listed) (run_from most setting listed)
 unfolding tested_from run_from
 tested_from-agrees zero setting listed = λ past course never. refl
