@@ -6,6 +6,7 @@
 //! - `outside`: reading and writing, each call failing in turn, gates, words and counted steps
 //! - `operations`: the values of operations on words at the edges of each width, and the sizes of kinds
 //! - `copies`: lists, inputs and turns
+//! - `accesses`: which accesses overlap, and which conflict
 //! - `choices`: which thread a chooser takes
 //! - `turns`: machines of small modules, turn by turn
 //! - `verdicts`: the class of made results
@@ -13,6 +14,8 @@
 //! - `printed`: the texts of made runs and classes
 #![tactic(auto)]
 
+#[cfg(test)]
+mod accesses;
 #[cfg(test)]
 mod cases;
 #[cfg(test)]

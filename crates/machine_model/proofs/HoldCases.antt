@@ -1,13 +1,13 @@
 -- What a hold is, by what its turns lead to.
 use Rattle.std.proofs.Common.{◌≡◌, ℕ, zero, suc, Bool, true, false, cond, List, ◌∷◌, [], ◌++◌, Option, Some, None, refl}
 use Rattle.std.specs.Prelude.{slice_get}
+use Rattle.machine_model.specs.declared.access.Access.{Access}
 use Rattle.machine_model.specs.declared.race.Race.{Race}
 use Rattle.machine_model.specs.declared.run.Outcome.{Outcome}
 use Rattle.machine_model.specs.declared.run.Outcome.TheVariants as outcomes
 use Rattle.machine_model.specs.declared.run.Reason.TheVariants.{Stuck, Repeats, Diverged}
 use Rattle.machine_model.specs.declared.run.TurnEnd.{TurnEnd}
 use Rattle.machine_model.specs.declared.run.TurnEnd.TheVariants as ends
-use Rattle.machine_model.specs.Access.{Access}
 use Rattle.machine_model.specs.Enabled.{enabled}
 use Rattle.machine_model.specs.Hold.{Held, held_after, held_from, held_over, held_with, thread_has_ended}
 use Rattle.machine_model.specs.Hold.Held.{Done, NotEnforced, Ran}

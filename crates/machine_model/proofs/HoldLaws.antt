@@ -9,7 +9,7 @@ use Rattle.machine_model.specs.declared.race.Race.{Race}
 use Rattle.machine_model.specs.declared.run.Outcome.{Outcome}
 use Rattle.machine_model.specs.declared.run.Outcome.TheVariants as outcomes
 use Rattle.machine_model.specs.declared.run.Reason.TheVariants.{Stuck, Repeats, Ended, Diverged}
-use Rattle.machine_model.specs.Access.{Access}
+use Rattle.machine_model.specs.declared.access.Access.{Access}
 use Rattle.machine_model.specs.Enabled.{enabled}
 use Rattle.machine_model.specs.Hold.{Held, held_over}
 use Rattle.machine_model.specs.Hold.Held.{Done, NotEnforced, Ran}

@@ -6,6 +6,7 @@ use Rattle.std.proofs.lemmas.Bool.{eqb-true}
 use Rattle.std.proofs.lemmas.List.Elements.{All-cons, All-head, All-nil, All-tail}
 use Rattle.ir_types.specs.declared.input.Input.{Input}
 use Rattle.ir_types.specs.declared.«module».Module.{Module}
+use Rattle.machine_model.specs.declared.access.Access.{Access}
 use Rattle.machine_model.specs.declared.case.Case.{Case}
 use Rattle.machine_model.specs.declared.mode.Mode.TheVariants.{Hold}
 use Rattle.machine_model.specs.declared.race.Race.{Race}
@@ -14,7 +15,6 @@ use Rattle.machine_model.specs.declared.run.Outcome.TheVariants as outcomes
 use Rattle.machine_model.specs.declared.run.Run.{Run}
 use Rattle.machine_model.specs.declared.run.TurnEnd.{TurnEnd}
 use Rattle.machine_model.specs.declared.run.TurnEnd.TheVariants as ends
-use Rattle.machine_model.specs.Access.{Access}
 use Rattle.machine_model.specs.Enabled.{enabled}
 use Rattle.machine_model.specs.Hold.{Held, held_from, held_over}
 use Rattle.machine_model.specs.Hold.Held.{Done, NotEnforced, Ran}

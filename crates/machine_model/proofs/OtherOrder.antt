@@ -1,6 +1,6 @@
 -- After a hold that is done the held thread is chosen, with its access.
 use Rattle.std.proofs.Common.{◌≡◌, ℕ, ◌+◌, List, Option, Some, None, refl, arith}
-use Rattle.machine_model.specs.Access.{Access}
+use Rattle.machine_model.specs.declared.access.Access.{Access}
 use Rattle.machine_model.specs.Enabled.{enabled}
 use Rattle.machine_model.specs.Job.{held_course}
 use Rattle.machine_model.specs.OtherOrder.{OrderIsTurnedRound}

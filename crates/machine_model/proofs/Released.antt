@@ -8,12 +8,13 @@ use Rattle.std.proofs.lemmas.Option.{slice_get_within}
 use Rattle.ir_types.specs.declared.instruction.Inst.{Inst}
 use Rattle.ir_types.specs.declared.instruction.Inst.TheVariants.{Load, Store}
 use Rattle.ir_types.specs.declared.instruction.Site.{Site}
+use Rattle.machine_model.specs.declared.access.Access.{Access}
 use Rattle.machine_model.specs.declared.state.Frame.{Frame}
 use Rattle.machine_model.specs.declared.state.Operation.{Operation}
 use Rattle.machine_model.specs.declared.state.Operation.TheVariants.{Start, At, CondReturn, Nothing}
 use Rattle.machine_model.specs.declared.state.State.{State}
 use Rattle.machine_model.specs.declared.state.Thread.{Thread}
-use Rattle.machine_model.specs.Access.{Access, access_of, pending, pending_in, pending_inst, pending_of, pending_operation, pending_placed}
+use Rattle.machine_model.specs.Access.{access_of, pending, pending_in, pending_inst, pending_of, pending_operation, pending_placed}
 use Rattle.machine_model.specs.Code.{Placed, next_in}
 use Rattle.machine_model.specs.Enabled.{enabled, is_enabled, may_run, waits, waits_at, waits_for, waits_in}
 use Rattle.machine_model.specs.Moment.{Moment, access_at}

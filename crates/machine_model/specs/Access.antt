@@ -1,10 +1,11 @@
 -- The operation that a thread waits to do, as other threads see it, and the accesses of memory among them.
-use Rattle.std.specs.Prelude.{ℕ, ◌+◌, Bool, true, false, ◌&&◌, ◌==◌, nat_lt, List, slice_get, slice_index, Option, Some, None}
+use Rattle.std.specs.Prelude.{ℕ, ◌+◌, Bool, true, false, ◌&&◌, ◌||◌, ◌==◌, nat_lt, List, slice_get, slice_index, Option, Some, None}
 use Rattle.ir_types.specs.declared.instruction.Inst.{Inst}
 use Rattle.ir_types.specs.declared.instruction.Inst.TheVariants.{Binary, Compare, Convert, Same, Select, Phi, Alloca, Load, Store, Address, Branch, BranchIf, Switch, Ret, Unreachable, Call, External}
 use Rattle.ir_types.specs.declared.instruction.Site.{Site}
 use Rattle.ir_types.specs.declared.«module».Module.{Module}
 use Rattle.ir_types.specs.Kind.{size_of}
+use Rattle.machine_model.specs.declared.access.Access.{Access}
 use Rattle.machine_model.specs.declared.pending.Pending.{Pending}
 use Rattle.machine_model.specs.declared.pending.Pending.TheVariants as pendings
 use Rattle.machine_model.specs.declared.state.Frame.{Frame}
@@ -14,13 +15,6 @@ use Rattle.machine_model.specs.declared.state.State.{State}
 use Rattle.machine_model.specs.declared.state.Thread.{Thread}
 use Rattle.machine_model.specs.Code.{Placed, next_in}
 use Rattle.machine_model.specs.Thread.{top}
-
--- a load or store of a range of bytes
-pub record Access : Type 0 where
-  pub site : Site
-  pub at : ℕ
-  pub len : ℕ
-  pub store : Bool
 
 -- a visible instruction, its address decided; of loads and stores only those at watched sites are visible
 abbrev pub pending_inst : Site → List ℕ → Inst → Pending
@@ -77,6 +71,10 @@ access_of pendings.Unborn = None
 -- the ranges have a byte in common
 abbrev pub overlaps : Access → Access → Bool
 overlaps one other = nat_lt one.at (other.at + other.len) && nat_lt other.at (one.at + one.len)
+
+-- the accesses have a byte in common, and one of them is a store
+abbrev pub conflicts : Access → Access → Bool
+conflicts one other = overlaps one other && (one.store || other.store)
 
 abbrev pub is_site : Site → Site → Bool
 is_site one other = (one.function == other.function) && (one.inst == other.inst)

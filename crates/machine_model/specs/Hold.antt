@@ -1,6 +1,7 @@
 -- The hold: from the hold point on a race's first thread is held, with its access pending, and the others run until
 -- the second thread has done its access, which is then the first of the two.
 use Rattle.std.specs.Prelude.{ℕ, zero, suc, Bool, false, List, [], ◌∷◌, ◌++◌, slice_get, Option, Some, None, if◌then◌else◌}
+use Rattle.machine_model.specs.declared.access.Access.{Access}
 use Rattle.machine_model.specs.declared.race.Race.{Race}
 use Rattle.machine_model.specs.declared.run.Outcome.{Outcome}
 use Rattle.machine_model.specs.declared.run.Outcome.TheVariants as outcomes
@@ -8,7 +9,6 @@ use Rattle.machine_model.specs.declared.run.Reason.{Reason}
 use Rattle.machine_model.specs.declared.run.Reason.TheVariants.{Stuck, Repeats, Ended, Diverged}
 use Rattle.machine_model.specs.declared.run.Run.{Run}
 use Rattle.machine_model.specs.declared.state.Thread.{Thread}
-use Rattle.machine_model.specs.Access.{Access}
 use Rattle.machine_model.specs.Enabled.{enabled}
 use Rattle.machine_model.specs.Policy.{Choice, choose}
 use Rattle.machine_model.specs.Reach.{does_second}

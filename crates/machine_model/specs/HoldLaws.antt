@@ -5,7 +5,7 @@ use Rattle.machine_model.specs.declared.mode.Mode.TheVariants.{Hold}
 use Rattle.machine_model.specs.declared.race.Race.{Race}
 use Rattle.machine_model.specs.declared.run.Outcome.TheVariants.{Exit}
 use Rattle.machine_model.specs.declared.run.Reason.TheVariants.{Stuck, Repeats, Ended, Diverged}
-use Rattle.machine_model.specs.Access.{Access}
+use Rattle.machine_model.specs.declared.access.Access.{Access}
 use Rattle.machine_model.specs.Enabled.{enabled}
 use Rattle.machine_model.specs.Hold.{Held, held_from, thread_has_ended}
 use Rattle.machine_model.specs.Hold.Held.{Done, NotEnforced, Ran}

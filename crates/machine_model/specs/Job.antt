@@ -3,11 +3,11 @@
 use Rattle.std.specs.Prelude.{option_map, ℕ, ◌+◌, ◌-◌, List, [], ◌∷◌, map, length, take, Option, Some, None, if◌then◌else◌}
 use Rattle.ir_types.specs.declared.input.Input.{Input}
 use Rattle.ir_types.specs.declared.«module».Module.{Module}
+use Rattle.machine_model.specs.declared.access.Access.{Access}
 use Rattle.machine_model.specs.declared.case.Case.{Case}
 use Rattle.machine_model.specs.declared.race.Race.{Race}
 use Rattle.machine_model.specs.declared.run.Reason.{Reason}
 use Rattle.machine_model.specs.declared.run.Run.{Run}
-use Rattle.machine_model.specs.Access.{Access}
 use Rattle.machine_model.specs.Hold.{Held, held_from}
 use Rattle.machine_model.specs.Hold.Held.{Done, NotEnforced, Ran}
 use Rattle.machine_model.specs.Moment.{Moment, access_at}

@@ -1,6 +1,7 @@
 -- The moments of a run: each of its turns, with what there was before it.
 use Rattle.std.specs.Prelude.{ℕ, zero, suc, ◌+◌, ◌-◌, ◌==◌, List, [], ◌∷◌, Option, Some, None, if◌then◌else◌}
-use Rattle.machine_model.specs.Access.{Access, access_of, pending}
+use Rattle.machine_model.specs.declared.access.Access.{Access}
+use Rattle.machine_model.specs.Access.{access_of, pending}
 use Rattle.machine_model.specs.Enabled.{enabled}
 use Rattle.machine_model.specs.Policy.{Choice, choose}
 use Rattle.machine_model.specs.Run.{Advance, Course, advanced_with, begun}

@@ -3,6 +3,7 @@
 //! - `state`: threads with their frames, objects, locks, conditions and the output
 //! - `state_copy`: equal states
 //! - `pending`, `mode`: what a thread waits to do, and by which rule turns are chosen
+//! - `access`: the accesses of memory that are turns of their own, and which of them conflict
 //! - `trap`, `run`: how an instruction fails, how a turn and a run end, and what a run leaves
 //! - `case`, `race`: what is asked of a recorded run
 //! - `copy`: equal inputs and turns
@@ -11,6 +12,7 @@
 //! The definitions of step, turn and run are in `specs/`.
 #![tactic(auto)]
 
+mod access;
 mod case;
 mod copy;
 pub mod laws;
@@ -22,6 +24,7 @@ mod state;
 mod state_copy;
 mod trap;
 
+pub use access::Access;
 pub use case::{Case, Key};
 pub use copy::{copy_input, copy_turns};
 pub use mode::Mode;

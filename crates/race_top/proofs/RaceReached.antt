@@ -6,14 +6,14 @@ use Rattle.std.proofs.lemmas.Bool.{and_from, and_parts, eq-eqb, eqb-false, ltb-t
 use Rattle.std.proofs.lemmas.Map.Keys.{any_passes_from_place}
 use Rattle.ir_types.specs.declared.instruction.Site.{Site}
 use Rattle.ir_types.specs.declared.«module».Module.{Module}
+use Rattle.machine_model.specs.declared.access.Access.{Access}
 use Rattle.machine_model.specs.declared.case.Case.{Case}
 use Rattle.machine_model.specs.declared.race.Race.{Race}
-use Rattle.machine_model.specs.Access.{Access, is_site, overlaps}
+use Rattle.machine_model.specs.Access.{conflicts, is_site, overlaps}
 use Rattle.machine_model.specs.Moment.{Moment, access_at, from_turn}
 use Rattle.machine_model.specs.Primary.{setting_of}
 use Rattle.machine_model.specs.Reach.{Reaches, does_second, primary_moments, reaches_from}
 use Rattle.machine_model.specs.Setting.{Setting}
-use Rattle.race_top.specs.Access.{conflicts}
 use Rattle.race_top.specs.CheckRace.{RaceFault, RaceOf, is_range, race_at, race_with, turns_of}
 use Rattle.race_top.specs.CheckRace.RaceFault.{NoConflict, Range, SameThread}
 use Rattle.race_top.specs.CheckRaceLaws.{RecordedRunReaches, ThreadsDiffer}

@@ -1,16 +1,16 @@
 -- The race of two recorded turns, or why they are none. The turns are numbered from 1.
 use Rattle.std.specs.Prelude.{◌≡◌, ℕ, ◌-◌, Bool, ◌&&◌, ◌==◌, nat_lt, nat_le, List, filter, length, take, slice_get, Option, Some, None, Result, Ok, Err, if◌then◌else◌}
 use Rattle.ir_types.specs.declared.«module».Module.{Module}
+use Rattle.machine_model.specs.declared.access.Access.{Access}
 use Rattle.machine_model.specs.declared.case.Case.{Case}
 use Rattle.machine_model.specs.declared.race.Race.{Race}
-use Rattle.machine_model.specs.Access.{Access}
+use Rattle.machine_model.specs.Access.{conflicts}
 use Rattle.machine_model.specs.Moment.{Moment, access_at}
 use Rattle.machine_model.specs.Primary.{setting_of}
 use Rattle.machine_model.specs.Reach.{primary_moments}
 use Rattle.machine_model.specs.Setting.{Setting}
 use Rattle.race_top.specs.declared.trace_replay.check.RaceError.{RaceError}
 use Rattle.race_top.specs.declared.trace_replay.check.RaceError.TheVariants as errors
-use Rattle.race_top.specs.Access.{conflicts}
 
 pub data RaceFault : Type 0 where
   Range : RaceFault

@@ -1,4 +1,3 @@
-pub mod Access
 pub mod AnalyserPool
 pub mod AnalyserPoolLaws
 pub mod Answer

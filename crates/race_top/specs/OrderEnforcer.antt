@@ -12,7 +12,6 @@ use Rattle.race_top.specs.declared.order_enforcer.hold.Enforced.TheVariants as a
 use Rattle.race_top.specs.declared.order_enforcer.job.Alternate.{Alternate as Answer}
 use Rattle.race_top.specs.declared.order_enforcer.job.Alternate.TheVariants as alternates
 use Rattle.race_top.specs.declared.order_enforcer.point.Point.{Point}
-use Rattle.race_top.specs.Access.{seen_access}
 use Rattle.race_top.specs.Course.{IsOf, course_of}
 use Rattle.race_top.specs.Past.{Recalls}
 
@@ -21,7 +20,7 @@ abbrev pub FindsPoint : Option Point → Option HoldPoint → Type 0
 FindsPoint None point = point ≡ None
 FindsPoint (Some found) point =
     (snapshots : List Snapshot) × Recalls snapshots found.past
-    × (point ≡ Some (record { past = snapshots; course = course_of found.course; first = seen_access found.first }))
+    × (point ≡ Some (record { past = snapshots; course = course_of found.course; first = found.first }))
 
 -- how the hold ends
 abbrev pub Enforces : Enforced → Held → Type 0

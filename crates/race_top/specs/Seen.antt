@@ -1,5 +1,5 @@
 -- What the code sees of two turns of the recorded run, in terms of the run's moments.
-use Rattle.std.specs.Prelude.{◌≡◌, ℕ, ◌-◌, ◌<◌, List, [], ◌∷◌, map, option_map, slice_get, take, Option, Some, None}
+use Rattle.std.specs.Prelude.{◌≡◌, ℕ, ◌-◌, ◌<◌, List, [], ◌∷◌, map, slice_get, take, Option, Some, None}
 use Rattle.ir_types.specs.declared.«module».Module.{Module}
 use Rattle.machine_model.specs.declared.case.Case.{Case}
 use Rattle.machine_model.specs.Moment.{Moment, access_at, moments_from, onward_or_none}
@@ -11,7 +11,6 @@ use Rattle.race_top.specs.declared.course.Course.{Course as Kept}
 use Rattle.race_top.specs.declared.trace_replay.seen.Due.{Due}
 use Rattle.race_top.specs.declared.trace_replay.seen.Pair.{Pair}
 use Rattle.race_top.specs.declared.trace_replay.seen.Seen.{Seen}
-use Rattle.race_top.specs.Access.{seen_access}
 use Rattle.race_top.specs.CheckRace.{turns_of}
 use Rattle.race_top.specs.Course.{IsOf, choice_of, course_of}
 
@@ -54,7 +53,7 @@ pub record MayTake (code : Module) (case : Case) (due : Due) : Type 0 where
 -- what is seen of a turn is so
 pub record IsSeen (setting : Setting) (moment : Moment) (seen : Seen) : Type 0 where
   pub thread : moment.thread ≡ seen.thread
-  pub access : access_at setting moment ≡ option_map seen_access seen.access
+  pub access : access_at setting moment ≡ seen.access
 
 -- what is seen of the two turns of these numbers, counted from 1, is so
 pub record IsPair (setting : Setting) (moments : List Moment) (first second : ℕ) (pair : Pair) : Type 0 where

@@ -1,6 +1,6 @@
 //! A run so far, turn by turn.
 
-ghost use Rattle.std.specs.Prelude.{◌≡◌, ◌<◌, ◌≤◌, IfOk, IfSome, OnOk, Some, option_map};
+ghost use Rattle.std.specs.Prelude.{◌≡◌, ◌<◌, ◌≤◌, IfOk, IfSome, OnOk, Some};
 ghost use Rattle.machine_model.specs.Enabled.{enabled};
 ghost use Rattle.machine_model.specs.Moment.{access_at};
 ghost use Rattle.machine_model.specs.Policy.{choose};
@@ -8,13 +8,11 @@ ghost use Rattle.machine_model.specs.Primary.{setting_of};
 ghost use Rattle.machine_model.specs.Run.{advanced, advanced_with, begun, told};
 ghost use Rattle.machine_model.specs.Runnable.{IsRunnable};
 ghost use Rattle.machine_model.specs.Setting.{Setting};
-ghost use Rattle.race_top.specs.Access.{seen_access};
 ghost use Rattle.race_top.specs.Course.{ChoosesTurn, GoesOn, IsOf, advance_of, choice_of, course_of, left_in};
 
-use crate::access::Access;
 use concrete_machine::Machine;
 use ir_types::{Input, Module};
-use machine_model::{Case, Outcome, Run, TurnEnd};
+use machine_model::{Access, Case, Outcome, Run, TurnEnd};
 use rc_base::{NoMemory, Steps};
 use std::alloc::Global;
 use std::sync::ledger::Ledger;
@@ -76,7 +74,7 @@ impl Course {
     /// The access that a turn of a thread does, if it does one.
     pub fn access(&self, thread: u32) -> Option<Access>
         ensures { (setting : Setting) (case : Case) → IsOf setting.code case self.now →
-            option_map seen_access result ≡ access_at setting (record { before = course_of self.now; thread = thread }) }
+            result ≡ access_at setting (record { before = course_of self.now; thread = thread }) }
     {
         if self.left == 0 {
             return None;

@@ -10,14 +10,12 @@
 //!
 //! What `answer` stands on, in the order of the data:
 //!
-//! - `access`: accesses of memory that are turns of their own
 //! - `course`: a run so far, turn by turn, of a machine and a chooser
 //! - `trace_replay`: the recorded run
 //! - `order_enforcer`: the runs of a race's two orders
 //! - `analyser_pool`: the classes of races, from these runs
 #![tactic(auto)]
 
-mod access;
 mod analyser_pool;
 mod answer;
 mod command;

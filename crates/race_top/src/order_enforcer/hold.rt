@@ -1,6 +1,6 @@
 //! The hold of a race's first thread.
 
-ghost use Rattle.std.specs.Prelude.{◌≡◌, ℕ, suc, ◌+◌, ◌<◌, ◌≤◌, ◌^◌, IfOk, List, option_map};
+ghost use Rattle.std.specs.Prelude.{◌≡◌, ℕ, suc, ◌+◌, ◌<◌, ◌≤◌, ◌^◌, IfOk, List};
 ghost use Rattle.machine_model.specs.Hold.{Held, held_after, held_from, held_over};
 ghost use Rattle.machine_model.specs.Primary.{setting_of};
 ghost use Rattle.machine_model.specs.Reach.{does_second, is_second};
@@ -10,17 +10,15 @@ ghost use Rattle.machine_model.specs.Run.Advance.{Onward};
 ghost use Rattle.machine_model.specs.Setting.{Setting};
 ghost use Rattle.race_top.specs.declared.order_enforcer.hold.Enforced.TheVariants as answers;
 ghost use Rattle.race_top.specs.declared.order_enforcer.hold.HoldAdvance.TheVariants as advances;
-ghost use Rattle.race_top.specs.Access.{seen_access};
 ghost use Rattle.race_top.specs.Course.{IsOf, course_of};
 ghost use Rattle.race_top.specs.HoldTurn.{LeadsTo, StaysWithin};
 ghost use Rattle.race_top.specs.OrderEnforcer.{Enforces, IsReady};
 ghost use Rattle.race_top.specs.Past.{Recalls};
 
-use crate::access::Access;
 use crate::course::{Advance, Course};
 use crate::order_enforcer::past::Past;
 use ir_types::{Input, Module};
-use machine_model::{Case, Outcome, Race, Reason, Run};
+use machine_model::{Access, Case, Outcome, Race, Reason, Run};
 use rc_base::{NoMemory, Steps};
 use std::sync::ledger::Ledger;
 
@@ -45,7 +43,7 @@ enum HoldAdvance {
 
 /// Whether this is the race's second access, and overlaps the first.
 fn is_second(race: &Race, first: Access, access: Option<Access>) -> bool
-    ensures { result ≡ is_second race.now (seen_access first) (option_map seen_access access) }
+    ensures { result ≡ is_second race.now first access }
 {
     match access {
         Some(access) => access.is_at(race.s2) && access.overlaps(&first),
@@ -56,7 +54,7 @@ fn is_second(race: &Race, first: Access, access: Option<Access>) -> bool
 /// Whether the turn of a thread does the race's second access.
 fn does_second(race: &Race, first: Access, course: &Course, thread: u32) -> bool
     ensures { (setting : Setting) (case : Case) → IsOf setting.code case course.now →
-        result ≡ does_second setting race.now (seen_access first) (record { before = course_of course.now; thread = thread }) }
+        result ≡ does_second setting race.now first (record { before = course_of course.now; thread = thread }) }
 {
     thread == race.t2 && is_second(race, first, course.access(thread))
 }
@@ -115,8 +113,8 @@ fn hold_turn<L: Ledger>(
     requires of { IsOf code.now case.now course }
     requires short { past.turns + 1 < 2 ^ 32 }
     ensures held { IfOk result (λ advance. (most : ℕ) (snapshots : List Snapshot) → Recalls snapshots past →
-        LeadsTo (held_from most (setting_of code.now case.now input.now) case.now.turns race.now (seen_access first)) advance
-        (held_from (suc most) (setting_of code.now case.now input.now) case.now.turns race.now (seen_access first)
+        LeadsTo (held_from most (setting_of code.now case.now input.now) case.now.turns race.now first) advance
+        (held_from (suc most) (setting_of code.now case.now input.now) case.now.turns race.now first
         snapshots (course_of course))) }
     ensures within { IfOk result (StaysWithin code.now case.now course.left (past.turns + 1)) }
 {
@@ -152,7 +150,7 @@ pub fn hold<L: Ledger>(
     requires short { past.turns + course.left + 1 < 2 ^ 32 }
     ensures held { IfOk result (λ enforced. (snapshots : List Snapshot) → Recalls snapshots past →
         Enforces enforced (held_from (course.left + 1) (setting_of code.now case.now input.now) case.now.turns race.now
-        (seen_access first) snapshots (course_of course))) }
+        first snapshots (course_of course))) }
     ensures ready { IfOk result (IsReady code.now case.now course.left (past.turns + course.left + 1)) }
 {
     // Each turn costs at least 1, or is cut.

@@ -14,11 +14,10 @@ ghost use Rattle.race_top.specs.Course.{IsOf, course_of};
 ghost use Rattle.race_top.specs.OrderEnforcer.{FindsPoint};
 ghost use Rattle.race_top.specs.Past.{Recalls};
 
-use crate::access::Access;
 use crate::course::{Advance, Course};
 use crate::order_enforcer::past::Past;
 use ir_types::{Input, Module};
-use machine_model::{Case, Race};
+use machine_model::{Access, Case, Race};
 use rc_base::{NoMemory, Steps};
 use std::alloc::Global;
 use std::sync::ledger::Ledger;

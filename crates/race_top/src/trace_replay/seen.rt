@@ -9,10 +9,9 @@ ghost use Rattle.machine_model.specs.Setting.{Setting};
 ghost use Rattle.race_top.specs.Course.{IsOf, course_of};
 ghost use Rattle.race_top.specs.Seen.{IsDue, IsLeft, IsSeen, MayTake, SeesPair, after_due, moment_due, recorded_from, threads_of};
 
-use crate::access::Access;
 use crate::course::{Advance, Course};
 use ir_types::Module;
-use machine_model::Case;
+use machine_model::{Access, Case};
 use rc_base::{NoMemory, Steps};
 use std::alloc::Global;
 use std::sync::ledger::{Blank, Ledger};

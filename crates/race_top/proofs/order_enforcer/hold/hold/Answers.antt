@@ -3,7 +3,6 @@ use Rattle.machine_model.specs.Hold.{held_from}
 use Rattle.machine_model.specs.Hold.Held.{Ran}
 use Rattle.machine_model.specs.Primary.{setting_of}
 use Rattle.race_top.specs.declared.order_enforcer.hold.HoldAdvance.TheVariants.{Onward, Over}
-use Rattle.race_top.specs.Access.{seen_access}
 use Rattle.race_top.specs.Course.{course_of}
 use Rattle.race_top.proofs.Holds.{hold-leads, hold-spent, ready-within}
 use Rattle.race_top.proofs.order_enforcer.hold.hold.Goals as goal
@@ -20,7 +19,7 @@ loop-init g c =
       same = λ snapshots recalls. (
         snapshots,
         recalls,
-        ap (λ (turns : ℕ). held_from turns setting c.args.case.now.turns c.args.race.now (seen_access c.args.first)
+        ap (λ (turns : ℕ). held_from turns setting c.args.case.now.turns c.args.race.now c.args.first
             snapshots (course_of c.args.course)) count,
       );
     }
@@ -35,7 +34,7 @@ hold_turn-requires-clause-short g c =
 pub returns-in-Over-clause-held : goal.returns-in-Over-clause-held
 returns-in-Over-clause-held g c = λ snapshots recalls.
     let setting = setting_of c.args.code.now c.args.case.now c.args.input.now in
-    let from = λ (turns : ℕ). held_from turns setting c.args.case.now.turns c.args.race.now (seen_access c.args.first) in
+    let from = λ (turns : ℕ). held_from turns setting c.args.case.now.turns c.args.race.now c.args.first in
     let rest = c.from-most.result + 1 - (c.loop.counter + 1) in
     let so_far = c.loop.invariant.same snapshots recalls in
     let turn = rw c.in-Over.is at c.in_ok-next.ensures.held in
@@ -53,7 +52,7 @@ returns-in-Over-clause-ready g c =
 pub loop-preserved : goal.loop-preserved
 loop-preserved g c =
     let setting = setting_of c.args.code.now c.args.case.now c.args.input.now in
-    let from = λ (turns : ℕ). held_from turns setting c.args.case.now.turns c.args.race.now (seen_access c.args.first) in
+    let from = λ (turns : ℕ). held_from turns setting c.args.case.now.turns c.args.race.now c.args.first in
     let rest = c.from-most.result + 1 - (c.loop.counter + 1) in
     let turn = rw c.in-Onward.is at c.in_ok-next.ensures.held in
     let within = rw c.in-Onward.is at c.in_ok-next.ensures.within in
@@ -72,9 +71,9 @@ loop-preserved g c =
 pub returns-clause-held : goal.returns-clause-held
 returns-clause-held g c = λ snapshots recalls.
     let setting = setting_of c.args.code.now c.args.case.now c.args.input.now in
-    let from = λ (turns : ℕ). held_from turns setting c.args.case.now.turns c.args.race.now (seen_access c.args.first) in
+    let from = λ (turns : ℕ). held_from turns setting c.args.case.now.turns c.args.race.now c.args.first in
     let so_far = c.loop.invariant.same snapshots recalls in
     hold-spent (c.from-most.result + 1 - c.loop.counter) setting c.args.case.now.turns c.args.race.now
-    (seen_access c.args.first) so_far.0 (course_of c.loop.course)
+    c.args.first so_far.0 (course_of c.loop.course)
     (from (c.args.course.left + 1) snapshots (course_of c.args.course)) (omega arith) so_far.2
     ∙ ap Ran (sym c.tell.ensures)

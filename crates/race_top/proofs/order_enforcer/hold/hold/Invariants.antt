@@ -3,7 +3,6 @@ use Rattle.machine_model.specs.Hold.{held_from}
 use Rattle.machine_model.specs.Primary.{setting_of}
 use Rattle.machine_model.specs.Repeat.{Snapshot}
 use Rattle.race_top.specs.declared.order_enforcer.hold.HoldAdvance.TheVariants.{Onward}
-use Rattle.race_top.specs.Access.{seen_access}
 use Rattle.race_top.specs.Course.{IsOf, course_of}
 use Rattle.race_top.specs.HoldTurn.{LeadsTo}
 use Rattle.race_top.specs.Past.{Recalls}
@@ -16,8 +15,8 @@ invariant-loop g l = record {
   left : l.course.left ≤ l.fn.course.left;
   of : IsOf l.code l.case l.course;
   same : (snapshots : List Snapshot) → Recalls snapshots l.fn.past →
-      LeadsTo (held_from (l.most - l.counter) (setting_of l.code l.case l.input) l.case.turns l.race (seen_access l.first))
+      LeadsTo (held_from (l.most - l.counter) (setting_of l.code l.case l.input) l.case.turns l.race l.first)
       (Onward l.course l.past)
-      (held_from (l.fn.course.left + 1) (setting_of l.code l.case l.input) l.case.turns l.race (seen_access l.first)
+      (held_from (l.fn.course.left + 1) (setting_of l.code l.case l.input) l.case.turns l.race l.first
       snapshots (course_of l.fn.course));
 }

@@ -2,7 +2,6 @@ use Rattle.std.proofs.Common.{◌+◌, ◌≤◌, subst, sym, ◌∙◌, arith}
 use Rattle.machine_model.specs.Hold.{Held, held_from}
 use Rattle.machine_model.specs.Primary.{setting_of}
 use Rattle.machine_model.specs.Run.Advance.{Onward}
-use Rattle.race_top.specs.Access.{seen_access}
 use Rattle.race_top.specs.Course.{course_of}
 use Rattle.race_top.specs.HoldTurn.{LeadsTo}
 use Rattle.race_top.proofs.Holds.{hold-turn}
@@ -19,7 +18,7 @@ returns-in_ok-advance-in-Onward-clause-held g c = λ most snapshots recalls.
     let setting = setting_of c.args.code.now c.args.case.now c.args.input.now in
     let listed = c.args.case.now.turns in
     let race = c.args.race.now in
-    let first = seen_access c.args.first in
+    let first = c.args.first in
     let go = held_from most setting listed race first in
     let chosen = rw c.in-Some.is at c.in_ok-thread.ensures.chosen setting c.args.case.now c.requires.of in
     let of = c.in_ok-thread.ensures.of c.args.code.now c.args.case.now c.requires.of in

@@ -1,11 +1,10 @@
 //! Accesses of memory that are turns of their own.
 
-ghost use Rattle.std.specs.Prelude.{◌≡◌, option_map};
-ghost use Rattle.machine_model.specs.Access.{access_of, is_site, overlaps};
-ghost use Rattle.race_top.specs.Access.{conflicts, seen_access};
+ghost use Rattle.std.specs.Prelude.{◌≡◌};
+ghost use Rattle.machine_model.specs.Access.{access_of, conflicts, is_site, overlaps};
 
+use crate::pending::Pending;
 use ir_types::Site;
-use machine_model::Pending;
 
 /// A load or store at a watched site: of `len` bytes from the address `at` on.
 #[derive(Clone, Copy, Debug, PartialEq, Eq)]
@@ -19,7 +18,7 @@ pub struct Access {
 impl Access {
     /// The access that is pending, if it is one.
     pub fn of(pending: Pending) -> Option<Access>
-        ensures { option_map seen_access result ≡ access_of pending }
+        ensures { result ≡ access_of pending }
     {
         match pending {
             Pending::Access {
@@ -46,7 +45,7 @@ impl Access {
 
     /// Whether the ranges have a byte in common.
     pub fn overlaps(&self, other: &Access) -> bool
-        ensures { result ≡ overlaps (seen_access self.now) (seen_access other.now) }
+        ensures { result ≡ overlaps self.now other.now }
     {
         let end = u128::from(self.at) + u128::from(self.len);
         let other_end = u128::from(other.at) + u128::from(other.len);
@@ -55,7 +54,7 @@ impl Access {
 
     /// Whether the accesses conflict: they have a byte in common, and one of them is a store.
     pub fn conflicts(&self, other: &Access) -> bool
-        ensures { result ≡ conflicts (seen_access self.now) (seen_access other.now) }
+        ensures { result ≡ conflicts self.now other.now }
     {
         self.overlaps(other) && (self.store || other.store)
     }
