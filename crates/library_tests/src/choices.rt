@@ -95,10 +95,12 @@ fn follow(alloc: Global, listed: &[u8]) -> Result<Policy, NoMemory> {
     Policy::follow(alloc, &List { items })
 }
 
-/// Makes a call, and says whether a choice is the wanted one.
+/// Makes a call, and says whether a choice is the wanted one, and was told before it was made.
 fn answers(policy: &mut Policy, call: Call) -> bool {
     match call {
-        Choose(enabled, wanted) => policy.choose(enabled) == wanted,
+        Choose(enabled, wanted) => {
+            policy.peek(enabled) == wanted && policy.choose(enabled) == wanted
+        }
         Hold(thread) => {
             policy.hold(thread);
             true

@@ -1,5 +1,6 @@
 -- The search for the hold point of a race among the moments of a run.
-use Rattle.std.proofs.Common.{◌≡◌, ℕ, ◌+◌, ◌-◌, List, [], ◌∷◌, ◌++◌, drop, length, take, Option, Some, None, sym, ap, ◌∙◌, arith, length-drop}
+use Rattle.std.proofs.Common.{◌≡◌, ℕ, ◌+◌, ◌-◌, List, [], ◌∷◌, ◌++◌, drop, length, take, Option, Some, None, refl, sym, ap, subst, ◌∙◌, arith, length-drop}
+use Rattle.std.specs.Prelude.{IfSome, option_map}
 use Rattle.std.proofs.lemmas.List.{map_push}
 use Rattle.ir_types.specs.declared.input.Input.{Input}
 use Rattle.ir_types.specs.declared.«module».Module.{Module}
@@ -7,12 +8,14 @@ use Rattle.machine_model.specs.declared.case.Case.{Case}
 use Rattle.machine_model.specs.declared.race.Race.{Race}
 use Rattle.machine_model.specs.Job.{hold_point, point_at, point_in, snapshots}
 use Rattle.machine_model.specs.Moment.{Moment, access_at, from_turn}
-use Rattle.machine_model.specs.Policy.{Choice, Policy, choose}
+use Rattle.machine_model.specs.Policy.{Choice, Policy}
 use Rattle.machine_model.specs.Primary.{setting_of}
 use Rattle.machine_model.specs.Reach.{from_first, primary_moments}
 use Rattle.machine_model.specs.Repeat.{Snapshot, snapshot}
-use Rattle.turn_policy.specs.Policy.{Listed}
+use Rattle.race_top.specs.declared.course.Course.{Course}
 use Rattle.race_top.specs.declared.order_enforcer.past.Past.{Past}
+use Rattle.race_top.specs.declared.order_enforcer.point.Point.{Point}
+use Rattle.race_top.specs.Course.{IsOf}
 use Rattle.race_top.specs.Past.{Recalls}
 use Rattle.race_top.proofs.Moments.{take-next}
 
@@ -50,28 +53,22 @@ point-here code case race input i moment rest is from =
     ∙ ap (λ number. point_at (snapshots (take number moments)) moment (access_at setting moment)) count
     ∙ ap (λ past. point_at past moment (access_at setting moment)) (snapshots-next moments i moment rest is)
 
--- an equal chooser chooses as the course's own
-pub choose-alike : (ahead own : Listed) (listed threads : List ℕ) (chosen : Option Choice) → ahead ≡ own →
-    own.listed ≡ listed → choose ahead.listed ahead.policy threads ≡ chosen → choose listed own.policy threads ≡ chosen
-choose-alike ahead own listed threads chosen same is chose =
-    ap (λ turns. choose turns own.policy threads) (sym is)
-    ∙ ap (λ one. choose one.listed one.policy threads) (sym same) ∙ chose
+-- the thread that is told is that of a choice
+pub thread-chosen : (chosen : Option Choice) (thread : ℕ) → Some thread ≡ option_map (λ choice. choice.thread) chosen →
+    (next : Policy) × (chosen ≡ Some (record { thread = thread; next = next }))
+thread-chosen None thread is = absurd (let h : ⊥ = cc in h)
+thread-chosen (Some choice) thread is = let same : thread ≡ choice.thread = cc in (choice.next, rw same refl)
 
--- where the course's own has made the same choice, they are equal again
-pub equal-choosers : (ahead own : Listed) (listed : List ℕ) (chosen : Option Choice) (one : Choice) (thread : ℕ) →
-    chosen ≡ Some one → chosen ≡ Some (record { thread = thread; next = ahead.policy }) → own.policy ≡ one.next →
-    ahead.listed ≡ listed → own.listed ≡ listed → ahead ≡ own
-equal-choosers ahead own listed chosen one thread is other policy ahead_listed own_listed =
-    let same : one ≡ record { thread = thread; next = ahead.policy } = cc in
-    let policies : ahead.policy ≡ own.policy = sym (policy ∙ ap (λ choice. choice.next) same) in
-    let lists : ahead.listed ≡ own.listed = ahead_listed ∙ sym own_listed in
-    ap (λ turns. record ahead { listed = turns }) lists ∙ ap (λ chooser. record own { policy = chooser }) policies
+-- where none is told there is no choice
+pub none-chosen : (chosen : Option Choice) → None ≡ option_map (λ choice. choice.thread) chosen → chosen ≡ None
+none-chosen None is = refl
+none-chosen (Some choice) is = absurd (let h : ⊥ = cc in h)
 
--- the same choice, and so the same thread
-pub same-thread : (chosen : Option Choice) (one : Choice) (thread : ℕ) (next : Policy) → chosen ≡ Some one →
-    chosen ≡ Some (record { thread = thread; next = next }) → one.thread ≡ thread
-same-thread chosen one thread next is other =
-    let same : one ≡ record { thread = thread; next = next } = cc in ap (λ choice. choice.thread) same
+-- a point has the course that was found, which is of the module and the case
+pub point-of : (code : Module) (case : Case) (found : Option Point) (course : Course) → IsOf code case course →
+    IfSome found (λ point. point.course ≡ course) → IfSome found (λ point. IsOf code case point.course)
+point-of code case None course of is = tt
+point-of code case (Some point) course of is = subst (IsOf code case) (sym is) of
 
 pub Recalls-next : (moments : List Moment) (i : ℕ) (moment : Moment) (rest : List Moment) (now : Snapshot) (past : Past) →
     drop i moments ≡ moment ∷ rest →

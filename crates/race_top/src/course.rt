@@ -1,6 +1,6 @@
 //! A run so far, turn by turn.
 
-ghost use Rattle.std.specs.Prelude.{◌≡◌, ◌<◌, ◌≤◌, IfOk, IfSome, OnOk, Some};
+ghost use Rattle.std.specs.Prelude.{◌≡◌, ◌<◌, ◌≤◌, IfOk, IfSome, OnOk, Some, option_map};
 ghost use Rattle.machine_model.specs.Enabled.{enabled};
 ghost use Rattle.machine_model.specs.Moment.{access_at};
 ghost use Rattle.machine_model.specs.Policy.{choose};
@@ -69,6 +69,18 @@ impl Course {
     {
         self.machine.list_enabled(&mut self.enabled)?;
         Ok(self.policy.choose(&self.enabled))
+    }
+
+    /// The thread that `choose` would choose. The run so far stays as it is.
+    pub fn peek(&mut self) -> Result<Option<u32>, NoMemory>
+        ensures thread { IfOk result (λ thread. (setting : Setting) (case : Case) → IsOf setting.code case self.old →
+            thread ≡ option_map (λ choice. choice.thread)
+            (choose case.turns (course_of self.old).policy (enabled setting self.old.machine.state))) }
+        ensures same { OnOk result (course_of self.new ≡ course_of self.old) }
+        ensures of { OnOk result ((code : Module) (case : Case) → IsOf code case self.old → IsOf code case self.new) }
+    {
+        self.machine.list_enabled(&mut self.enabled)?;
+        Ok(self.policy.peek(&self.enabled))
     }
 
     /// The access that a turn of a thread does, if it does one.

@@ -1,4 +1,3 @@
 pub mod Choices
-pub mod Enabled
 pub mod Equality
 pub mod Turns

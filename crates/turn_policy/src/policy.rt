@@ -1,16 +1,24 @@
 //! A chooser that follows recorded turns, holds a thread, and lets it go.
 
-ghost use Rattle.std.specs.Prelude.{◌≡◌, Contains, IfOk, IfSome, option_map, if◌then◌else◌};
+ghost use Rattle.std.specs.Prelude.{◌≡◌, ◌≤◌, Contains, IfOk, IfSome, length, option_map, if◌then◌else◌};
 ghost use Rattle.machine_model.specs.Follow.{follow_turns, is_among};
 ghost use Rattle.machine_model.specs.Policy.{choose, followed_in, from_front, holding, released, releasing};
 ghost use Rattle.machine_model.specs.Repeat.{same_policy};
-ghost use Rattle.turn_policy.specs.Policy.{Chooses, free_threads};
+ghost use Rattle.turn_policy.specs.Policy.{Chooses, choice_of, free_threads};
 
 use crate::follow::{next_above, next_listed};
 use machine_model::{Mode, Turns, copy_turns};
 use rc_base::NoMemory;
 use std::alloc::Global;
 use std::marker::Model;
+
+/// A choice: the thread, and the mode and the place in the list after it.
+#[derive(Clone, Copy)]
+struct Choice {
+    thread: u32,
+    mode: Mode,
+    position: usize,
+}
 
 /// A chooser over a list of turns: its mode, how far it is in the list, and the thread that it chose last.
 ///
@@ -73,6 +81,26 @@ impl Policy {
         ensures chosen { Chooses result self.old self.new (choose self.old.listed self.old.policy enabled.now) }
         ensures among { IfSome result (Contains enabled.now) }
     {
+        let choice = self.next_choice(enabled)?;
+        self.mode = choice.mode;
+        self.position = choice.position;
+        self.last = Some(choice.thread);
+        Some(choice.thread)
+    }
+
+    /// The thread that it would choose among the enabled ones.
+    pub fn peek(&self, enabled: &[u32]) -> Option<u32>
+        ensures { result ≡ option_map (λ choice. choice.thread) (choose self.now.listed self.now.policy enabled.now) }
+    {
+        let choice = self.next_choice(enabled)?;
+        Some(choice.thread)
+    }
+
+    /// Its choice among the enabled threads.
+    fn next_choice(&self, enabled: &[u32]) -> Option<Choice>
+        ensures choice { option_map choice_of result ≡ choose self.now.listed self.now.policy enabled.now }
+        ensures within { IfSome result (λ choice. choice.position ≤ length self.now.listed) }
+    {
         match self.mode {
             Mode::Before => self.follow_without(None, enabled),
             Mode::Hold { thread } => self.follow_without(Some(thread), enabled),
@@ -87,42 +115,48 @@ impl Policy {
     }
 
     /// Follows the list among the enabled threads other than the one that is held.
-    fn follow_without(&mut self, held: Option<u32>, enabled: &[u32]) -> Option<u32>
-        ensures { Chooses result self.old self.new (option_map (followed_in self.old.policy.mode)
-            (follow_turns self.old.listed self.old.policy.follow (free_threads held enabled.now))) }
+    fn follow_without(&self, held: Option<u32>, enabled: &[u32]) -> Option<Choice>
+        ensures choice { option_map choice_of result ≡ option_map (followed_in self.now.policy.mode)
+            (follow_turns self.now.listed self.now.policy.follow (free_threads held enabled.now)) }
+        ensures within { IfSome result (λ choice. choice.position ≤ length self.now.listed) }
     {
         let first = next_above(None, held, enabled)?;
-        let rest = &self.listed.as_slice()[self.position..];
-        let thread = match next_listed(rest, held, enabled) {
+        let listed = self.listed.as_slice();
+        match next_listed(&listed[self.position..], held, enabled) {
             Some(entry) => {
                 let at = self.position + entry;
-                self.position = at + 1;
-                let thread = self.listed.as_slice()[at];
-                u32::from(thread)
+                Some(Choice {
+                    thread: u32::from(listed[at]),
+                    mode: self.mode,
+                    position: at + 1,
+                })
             }
-            None => {
-                self.position = self.listed.len();
-                next_above(self.last, held, enabled).unwrap_or(first)
-            }
-        };
-        self.last = Some(thread);
-        Some(thread)
+            None => Some(Choice {
+                thread: next_above(self.last, held, enabled).unwrap_or(first),
+                mode: self.mode,
+                position: listed.len(),
+            }),
+        }
     }
 
     /// Chooses the thread that was held, if it is enabled. Its turn moves nothing in the list.
-    fn release(&mut self, thread: u32, enabled: &[u32]) -> Option<u32>
-        ensures { Chooses result self.old self.new
-            (if is_among enabled.now thread then Some (released thread self.old.policy.follow) else None) }
+    fn release(&self, thread: u32, enabled: &[u32]) -> Option<Choice>
+        ensures choice { option_map choice_of result
+            ≡ (if is_among enabled.now thread then Some (released thread self.now.policy.follow) else None) }
+        ensures within { IfSome result (λ choice. choice.position ≤ length self.now.listed) }
     {
         if !enabled.contains(&thread) {
             return None;
         }
-        self.mode = Mode::After {
+        let position = self.position;
+        Some(Choice {
             thread,
-            chosen: true,
-        };
-        self.last = Some(thread);
-        Some(thread)
+            mode: Mode::After {
+                thread,
+                chosen: true,
+            },
+            position,
+        })
     }
 
     /// Whether two choosers over one list go on alike.

@@ -1,15 +1,11 @@
 //! The run of an input up to the hold point of a race.
 
 ghost use Rattle.std.specs.Prelude.{◌≡◌, ◌∷◌, ◌+◌, ◌<◌, ◌≤◌, ◌^◌, IfOk, IfSome, List, MatchOption};
-ghost use Rattle.concrete_machine.specs.Machine.{Runs};
-ghost use Rattle.machine_model.specs.Enabled.{enabled};
 ghost use Rattle.machine_model.specs.Job.{hold_point, point_at};
 ghost use Rattle.machine_model.specs.Moment.{Moment, access_at, from_turn};
-ghost use Rattle.machine_model.specs.Policy.{choose};
 ghost use Rattle.machine_model.specs.Repeat.{Snapshot};
 ghost use Rattle.machine_model.specs.Runnable.{IsRunnable};
 ghost use Rattle.machine_model.specs.Setting.{Setting};
-ghost use Rattle.turn_policy.specs.Policy.{Chooses};
 ghost use Rattle.race_top.specs.Course.{IsOf, course_of};
 ghost use Rattle.race_top.specs.OrderEnforcer.{FindsPoint};
 ghost use Rattle.race_top.specs.Past.{Recalls};
@@ -21,7 +17,6 @@ use machine_model::{Access, Case, Race};
 use rc_base::{NoMemory, Steps};
 use std::alloc::Global;
 use std::sync::ledger::Ledger;
-use turn_policy::Policy;
 
 /// The moment before a race's first access, which is pending.
 #[derive(Drop)]
@@ -29,20 +24,6 @@ pub struct Point {
     pub course: Course,
     pub past: Past,
     pub first: Access,
-}
-
-/// Chooses the thread of the next turn by a chooser beside the course's own, which stays as it is.
-fn look_ahead(
-    course: &Course,
-    ahead: &mut Policy,
-    threads: &mut Vec<u32>,
-) -> Result<Option<u32>, NoMemory>
-    ensures { IfOk result (λ thread. (setting : Setting) → Runs setting.code course.now.machine →
-        Chooses thread ahead.old ahead.new
-        (choose ahead.old.listed ahead.old.policy (enabled setting course.now.machine.state))) }
-{
-    course.machine.list_enabled(threads)?;
-    Ok(ahead.choose(threads))
 }
 
 /// The race's first access is done in the turn of this number among those of its thread that are left. What the
@@ -98,14 +79,11 @@ pub fn find_point<L: Ledger>(
 {
     let mut course = Course::begin(alloc, code, case, input)?;
     let mut past = Past::begin(&course)?;
-    // It chooses first, so that the course is still as it was before the choice.
-    let mut ahead = course.policy.fork()?;
-    let mut threads = Vec::new(alloc);
     let mut number = race.v1;
     // Each turn costs at least 1, or is cut.
     let most = u64::from(case.steps) + 1;
     for _ in 0..most {
-        let Some(thread) = look_ahead(&course, &mut ahead, &mut threads)? else {
+        let Some(thread) = course.peek()? else {
             return Ok(None);
         };
         match number_after(number, thread, race) {

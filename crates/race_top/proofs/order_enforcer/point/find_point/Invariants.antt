@@ -18,7 +18,6 @@ invariant-loop g l =
       from : from_turn l.race.t1 l.number (drop l.counter moments) ≡ from_first l.race moments;
       past : Recalls (snapshots (take l.counter moments) ++ snapshot (course_of l.course) ∷ []) l.past;
       turns : l.past.turns ≡ l.counter;
-      ahead : l.ahead ≡ l.course.policy;
       of : IsOf l.code l.case l.course;
       left : l.course.left ≤ l.case.steps;
     }
