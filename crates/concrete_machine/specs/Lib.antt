@@ -1,6 +1,7 @@
 pub mod Advance
 pub mod Call
 pub mod Code
+pub mod Course
 pub mod Effect
 pub mod Frame
 pub mod Machine

@@ -1,5 +1,6 @@
 //! The concrete machine: turns of threads over a state that is changed in place.
 //!
+//! - `course`: a run so far, turn by turn, of a machine and a chooser
 //! - `machine`: a machine that runs a module, turn by turn
 //! - `waiting`: what each thread waits to do
 //!
@@ -23,6 +24,7 @@
 mod advance;
 mod call;
 mod code;
+mod course;
 mod effect;
 mod frame;
 mod machine;
@@ -36,6 +38,7 @@ mod turns;
 mod visible;
 mod waiting;
 
+pub use course::{Advance, Course};
 pub use machine::Machine;
 pub use machine_model::{Pending, TurnEnd};
 pub use waiting::Waiting;

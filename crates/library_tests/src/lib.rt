@@ -8,7 +8,7 @@
 //! - `copies`: lists, inputs and turns
 //! - `accesses`: which accesses overlap, and which conflict
 //! - `choices`: which thread a chooser takes
-//! - `turns`: machines of small modules, turn by turn
+//! - `turns`, `courses`: machines and the run of a small module, turn by turn
 //! - `verdicts`: the class of made results
 //! - `cases`: texts of cases that no module of text can ask for
 //! - `printed`: the texts of made runs and classes
@@ -22,6 +22,8 @@ mod cases;
 mod choices;
 #[cfg(test)]
 mod copies;
+#[cfg(test)]
+mod courses;
 #[cfg(test)]
 mod operations;
 #[cfg(test)]

@@ -18,10 +18,10 @@ use std::sync::ledger::{Blank, Ledger};
 use std::test::Fail;
 
 /// Where the only global lies.
-const CELL: u64 = 4096;
+pub const CELL: u64 = 4096;
 
 /// The store of the thread that main makes.
-const STORE: Site = Site {
+pub const STORE: Site = Site {
     function: 1,
     inst: 1,
 };
@@ -139,7 +139,7 @@ fn module_of(alloc: Global, functions: Vec<Function>) -> Result<Module, NoMemory
 }
 
 /// Two threads.
-fn joining_module(alloc: Global) -> Result<Module, NoMemory>
+pub fn joining_module(alloc: Global) -> Result<Module, NoMemory>
     ensures { IfOk result IsRunnable }
 {
     let mut functions = Vec::new(alloc);
@@ -148,7 +148,7 @@ fn joining_module(alloc: Global) -> Result<Module, NoMemory>
     module_of(alloc, functions)
 }
 
-fn empty_input(alloc: Global) -> Input {
+pub fn empty_input(alloc: Global) -> Input {
     Input {
         slots: List::new(alloc),
     }

@@ -15,10 +15,10 @@ use Rattle.machine_model.specs.Reach.{does_second, is_second}
 use Rattle.machine_model.specs.Repeat.{Snapshot}
 use Rattle.machine_model.specs.Run.{Advance, Course, advanced_with, told}
 use Rattle.machine_model.specs.Setting.{Setting}
+use Rattle.concrete_machine.specs.Course.{choice_of}
 use Rattle.race_top.specs.declared.order_enforcer.hold.Enforced.{Enforced}
 use Rattle.race_top.specs.declared.order_enforcer.hold.Enforced.TheVariants as answers
 use Rattle.race_top.specs.declared.order_enforcer.hold.HoldAdvance.{HoldAdvance}
-use Rattle.race_top.specs.Course.{choice_of}
 use Rattle.race_top.specs.HoldTurn.{LeadsTo}
 use Rattle.race_top.specs.OrderEnforcer.{IsReady}
 

@@ -12,10 +12,10 @@ use Rattle.machine_model.specs.Policy.{Choice, Policy}
 use Rattle.machine_model.specs.Primary.{setting_of}
 use Rattle.machine_model.specs.Reach.{from_first, primary_moments}
 use Rattle.machine_model.specs.Repeat.{Snapshot, snapshot}
-use Rattle.race_top.specs.declared.course.Course.{Course}
+use Rattle.concrete_machine.specs.declared.course.Course.{Course}
+use Rattle.concrete_machine.specs.Course.{IsOf}
 use Rattle.race_top.specs.declared.order_enforcer.past.Past.{Past}
 use Rattle.race_top.specs.declared.order_enforcer.point.Point.{Point}
-use Rattle.race_top.specs.Course.{IsOf}
 use Rattle.race_top.specs.Past.{Recalls}
 use Rattle.race_top.proofs.Moments.{take-next}
 

@@ -9,10 +9,10 @@ use Rattle.ir_types.specs.declared.«module».Module.{Module}
 use Rattle.machine_model.specs.declared.case.Case.{Case}
 use Rattle.machine_model.specs.Moment.{Moment}
 use Rattle.machine_model.specs.Policy.{Policy}
-use Rattle.race_top.specs.declared.course.Course.{Course as Kept}
+use Rattle.concrete_machine.specs.declared.course.Course.{Course as Kept}
+use Rattle.concrete_machine.specs.Course.{course_of}
 use Rattle.race_top.specs.declared.trace_replay.seen.Due.{Due}
 use Rattle.race_top.specs.CheckRace.{turns_of}
-use Rattle.race_top.specs.Course.{course_of}
 use Rattle.race_top.specs.Seen.{IsDue, after_due, moment_due, recorded_from, threads_of}
 use Rattle.race_top.proofs.Moments.{drop-next, slice_get-drop, take-next}
 

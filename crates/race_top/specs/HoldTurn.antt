@@ -5,9 +5,9 @@ use Rattle.machine_model.specs.declared.case.Case.{Case}
 use Rattle.machine_model.specs.Hold.{Held}
 use Rattle.machine_model.specs.Repeat.{Snapshot}
 use Rattle.machine_model.specs.Run.{Course}
+use Rattle.concrete_machine.specs.Course.{IsOf, course_of}
 use Rattle.race_top.specs.declared.order_enforcer.hold.HoldAdvance.{HoldAdvance}
 use Rattle.race_top.specs.declared.order_enforcer.hold.HoldAdvance.TheVariants.{Onward, Over}
-use Rattle.race_top.specs.Course.{IsOf, course_of}
 use Rattle.race_top.specs.OrderEnforcer.{Enforces, IsReady}
 use Rattle.race_top.specs.Past.{Recalls}
 

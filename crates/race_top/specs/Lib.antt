@@ -4,7 +4,6 @@ pub mod Answer
 pub mod CheckRace
 pub mod CheckRaceLaws
 pub mod Command
-pub mod Course
 pub mod Due
 pub mod File
 pub mod Files

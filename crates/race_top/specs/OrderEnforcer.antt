@@ -7,12 +7,12 @@ use Rattle.machine_model.specs.Hold.Held.{Done, NotEnforced, Ran}
 use Rattle.machine_model.specs.Job.{Alternate, HoldPoint}
 use Rattle.machine_model.specs.Job.Alternate.{Runs, Not, Absent}
 use Rattle.machine_model.specs.Repeat.{Snapshot}
+use Rattle.concrete_machine.specs.Course.{IsOf, course_of}
 use Rattle.race_top.specs.declared.order_enforcer.hold.Enforced.{Enforced}
 use Rattle.race_top.specs.declared.order_enforcer.hold.Enforced.TheVariants as answers
 use Rattle.race_top.specs.declared.order_enforcer.job.Alternate.{Alternate as Answer}
 use Rattle.race_top.specs.declared.order_enforcer.job.Alternate.TheVariants as alternates
 use Rattle.race_top.specs.declared.order_enforcer.point.Point.{Point}
-use Rattle.race_top.specs.Course.{IsOf, course_of}
 use Rattle.race_top.specs.Past.{Recalls}
 
 -- the hold point was found, with what the repeat test compares with there

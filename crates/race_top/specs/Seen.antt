@@ -7,12 +7,12 @@ use Rattle.machine_model.specs.Policy.{Policy}
 use Rattle.machine_model.specs.Primary.{setting_of}
 use Rattle.machine_model.specs.Run.{Course, advanced_with}
 use Rattle.machine_model.specs.Setting.{Setting}
-use Rattle.race_top.specs.declared.course.Course.{Course as Kept}
+use Rattle.concrete_machine.specs.declared.course.Course.{Course as Kept}
+use Rattle.concrete_machine.specs.Course.{IsOf, choice_of, course_of}
 use Rattle.race_top.specs.declared.trace_replay.seen.Due.{Due}
 use Rattle.race_top.specs.declared.trace_replay.seen.Pair.{Pair}
 use Rattle.race_top.specs.declared.trace_replay.seen.Seen.{Seen}
 use Rattle.race_top.specs.CheckRace.{turns_of}
-use Rattle.race_top.specs.Course.{IsOf, choice_of, course_of}
 
 -- the moments of the recorded run from a course on, at most so many
 abbrev pub recorded_from : Module → Case → ℕ → Course → List Moment

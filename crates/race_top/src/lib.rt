@@ -10,7 +10,6 @@
 //!
 //! What `answer` stands on, in the order of the data:
 //!
-//! - `course`: a run so far, turn by turn, of a machine and a chooser
 //! - `trace_replay`: the recorded run
 //! - `order_enforcer`: the runs of a race's two orders
 //! - `analyser_pool`: the classes of races, from these runs
@@ -19,7 +18,6 @@
 mod analyser_pool;
 mod answer;
 mod command;
-mod course;
 mod file;
 mod files;
 pub mod laws;

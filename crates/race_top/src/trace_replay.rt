@@ -13,8 +13,8 @@ ghost use Rattle.machine_model.specs.Primary.{Primary};
 ghost use Rattle.machine_model.specs.Runnable.{IsRunnable};
 ghost use Rattle.race_top.specs.TraceReplay.{Tells, fault_at_end, first_other, replay_fault};
 
-use crate::course::{Advance, Course};
 pub use check::{RaceError, check_race};
+use concrete_machine::{Advance, Course};
 use ir_types::{Input, Module};
 use machine_model::{Case, Outcome, Run};
 use rc_base::{NoMemory, Steps};

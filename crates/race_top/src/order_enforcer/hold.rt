@@ -8,15 +8,15 @@ ghost use Rattle.machine_model.specs.Repeat.{Snapshot};
 ghost use Rattle.machine_model.specs.Run.{Course as Seen};
 ghost use Rattle.machine_model.specs.Run.Advance.{Onward};
 ghost use Rattle.machine_model.specs.Setting.{Setting};
+ghost use Rattle.concrete_machine.specs.Course.{IsOf, course_of};
 ghost use Rattle.race_top.specs.declared.order_enforcer.hold.Enforced.TheVariants as answers;
 ghost use Rattle.race_top.specs.declared.order_enforcer.hold.HoldAdvance.TheVariants as advances;
-ghost use Rattle.race_top.specs.Course.{IsOf, course_of};
 ghost use Rattle.race_top.specs.HoldTurn.{LeadsTo, StaysWithin};
 ghost use Rattle.race_top.specs.OrderEnforcer.{Enforces, IsReady};
 ghost use Rattle.race_top.specs.Past.{Recalls};
 
-use crate::course::{Advance, Course};
 use crate::order_enforcer::past::Past;
+use concrete_machine::{Advance, Course};
 use ir_types::{Input, Module};
 use machine_model::{Access, Case, Outcome, Race, Reason, Run};
 use rc_base::{NoMemory, Steps};

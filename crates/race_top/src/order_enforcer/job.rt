@@ -8,11 +8,11 @@ ghost use Rattle.machine_model.specs.Reach.{Reaches};
 ghost use Rattle.machine_model.specs.Runnable.{IsRunnable};
 ghost use Rattle.race_top.specs.OrderEnforcer.{Enforces, IsReady, alternate_of};
 
-use crate::course::Course;
 use crate::order_enforcer::hold::{Enforced, hold};
 use crate::order_enforcer::past::Past;
 use crate::order_enforcer::point::{Point, find_point};
 use crate::order_enforcer::tested::run_tested;
+use concrete_machine::Course;
 use ir_types::{Input, Module};
 use machine_model::{Case, Race, Reason, Run, Turns};
 use rc_base::{NoMemory, Steps};

@@ -3,11 +3,10 @@
 ghost use Rattle.std.specs.Prelude.{◌≡◌, ◌∷◌, [], ◌++◌, ◌+◌, ◌<◌, ◌^◌, IfOk, List, OnOk, length};
 ghost use Rattle.machine_model.specs.declared.run.Outcome.TheVariants.{Repeats};
 ghost use Rattle.machine_model.specs.Repeat.{Snapshot, earlier_turn, repeats, same_snapshot, snapshot};
-ghost use Rattle.race_top.specs.Course.{course_of};
+ghost use Rattle.concrete_machine.specs.Course.{course_of};
 ghost use Rattle.race_top.specs.Past.{Recalls, snapshot_of};
 
-use crate::course::Course;
-use concrete_machine::Machine;
+use concrete_machine::{Course, Machine};
 use machine_model::Outcome;
 use rc_base::NoMemory;
 use turn_policy::Policy;

@@ -6,12 +6,12 @@ ghost use Rattle.machine_model.specs.Moment.{Moment, access_at, from_turn};
 ghost use Rattle.machine_model.specs.Repeat.{Snapshot};
 ghost use Rattle.machine_model.specs.Runnable.{IsRunnable};
 ghost use Rattle.machine_model.specs.Setting.{Setting};
-ghost use Rattle.race_top.specs.Course.{IsOf, course_of};
+ghost use Rattle.concrete_machine.specs.Course.{IsOf, course_of};
 ghost use Rattle.race_top.specs.OrderEnforcer.{FindsPoint};
 ghost use Rattle.race_top.specs.Past.{Recalls};
 
-use crate::course::{Advance, Course};
 use crate::order_enforcer::past::Past;
+use concrete_machine::{Advance, Course};
 use ir_types::{Input, Module};
 use machine_model::{Access, Case, Race};
 use rc_base::{NoMemory, Steps};

@@ -4,11 +4,11 @@ ghost use Rattle.std.specs.Prelude.{◌≡◌, ◌+◌, ◌<◌, ◌^◌, IfOk, 
 ghost use Rattle.machine_model.specs.Primary.{setting_of};
 ghost use Rattle.machine_model.specs.Repeat.{Snapshot};
 ghost use Rattle.machine_model.specs.TestedRun.{tested_on};
-ghost use Rattle.race_top.specs.Course.{IsOf, course_of};
+ghost use Rattle.concrete_machine.specs.Course.{IsOf, course_of};
 ghost use Rattle.race_top.specs.Past.{Recalls};
 
-use crate::course::{Advance, Course};
 use crate::order_enforcer::past::Past;
+use concrete_machine::{Advance, Course};
 use ir_types::{Input, Module};
 use machine_model::{Case, Outcome, Run};
 use rc_base::{NoMemory, Steps};

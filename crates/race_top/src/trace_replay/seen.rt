@@ -6,10 +6,10 @@ ghost use Rattle.machine_model.specs.Primary.{setting_of};
 ghost use Rattle.machine_model.specs.Reach.{primary_moments};
 ghost use Rattle.machine_model.specs.Runnable.{IsRunnable};
 ghost use Rattle.machine_model.specs.Setting.{Setting};
-ghost use Rattle.race_top.specs.Course.{IsOf, course_of};
+ghost use Rattle.concrete_machine.specs.Course.{IsOf, course_of};
 ghost use Rattle.race_top.specs.Seen.{IsDue, IsLeft, IsSeen, MayTake, SeesPair, after_due, moment_due, recorded_from, threads_of};
 
-use crate::course::{Advance, Course};
+use concrete_machine::{Advance, Course};
 use ir_types::Module;
 use machine_model::{Access, Case};
 use rc_base::{NoMemory, Steps};

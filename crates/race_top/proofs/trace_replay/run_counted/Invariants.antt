@@ -1,7 +1,7 @@
 use Rattle.std.proofs.Common.{◌≡◌, ◌+◌, ◌-◌}
 use Rattle.machine_model.specs.Primary.{Primary, setting_of}
 use Rattle.machine_model.specs.Run.{run_from}
-use Rattle.race_top.specs.Course.{IsOf, course_of}
+use Rattle.concrete_machine.specs.Course.{IsOf, course_of}
 use Rattle.race_top.proofs.trace_replay.run_counted.Given as goal
 
 abbrev pub invariant-loop : goal.invariant-loop

@@ -1,6 +1,6 @@
 use Rattle.std.proofs.Common.{ap, ◌∙◌}
 use Rattle.machine_model.specs.Reach.{is_second}
-use Rattle.race_top.specs.Course.{course_of}
+use Rattle.concrete_machine.specs.Course.{course_of}
 use Rattle.race_top.proofs.Holds.{second-thread}
 use Rattle.race_top.proofs.order_enforcer.hold.does_second.Goals as goal
 

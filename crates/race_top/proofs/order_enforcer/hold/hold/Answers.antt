@@ -2,8 +2,8 @@ use Rattle.std.proofs.Common.{◌≡◌, ℕ, ◌+◌, ◌-◌, ap, sym, ◌∙�
 use Rattle.machine_model.specs.Hold.{held_from}
 use Rattle.machine_model.specs.Hold.Held.{Ran}
 use Rattle.machine_model.specs.Primary.{setting_of}
+use Rattle.concrete_machine.specs.Course.{course_of}
 use Rattle.race_top.specs.declared.order_enforcer.hold.HoldAdvance.TheVariants.{Onward, Over}
-use Rattle.race_top.specs.Course.{course_of}
 use Rattle.race_top.proofs.Holds.{hold-leads, hold-spent, ready-within}
 use Rattle.race_top.proofs.order_enforcer.hold.hold.Goals as goal
 

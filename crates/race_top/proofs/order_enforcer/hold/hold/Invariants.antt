@@ -2,8 +2,8 @@ use Rattle.std.proofs.Common.{◌≡◌, ◌+◌, ◌-◌, ◌≤◌, List}
 use Rattle.machine_model.specs.Hold.{held_from}
 use Rattle.machine_model.specs.Primary.{setting_of}
 use Rattle.machine_model.specs.Repeat.{Snapshot}
+use Rattle.concrete_machine.specs.Course.{IsOf, course_of}
 use Rattle.race_top.specs.declared.order_enforcer.hold.HoldAdvance.TheVariants.{Onward}
-use Rattle.race_top.specs.Course.{IsOf, course_of}
 use Rattle.race_top.specs.HoldTurn.{LeadsTo}
 use Rattle.race_top.specs.Past.{Recalls}
 use Rattle.race_top.proofs.order_enforcer.hold.hold.Given as goal

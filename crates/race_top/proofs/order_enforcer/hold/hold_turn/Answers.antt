@@ -2,7 +2,7 @@ use Rattle.std.proofs.Common.{◌+◌, ◌≤◌, subst, sym, ◌∙◌, arith}
 use Rattle.machine_model.specs.Hold.{Held, held_from}
 use Rattle.machine_model.specs.Primary.{setting_of}
 use Rattle.machine_model.specs.Run.Advance.{Onward}
-use Rattle.race_top.specs.Course.{course_of}
+use Rattle.concrete_machine.specs.Course.{course_of}
 use Rattle.race_top.specs.HoldTurn.{LeadsTo}
 use Rattle.race_top.proofs.Holds.{hold-turn}
 use Rattle.race_top.proofs.order_enforcer.hold.hold_turn.Goals as goal

@@ -8,7 +8,7 @@ use Rattle.machine_model.specs.Primary.{setting_of}
 use Rattle.machine_model.specs.Reach.{from_first, primary_moments}
 use Rattle.machine_model.specs.Repeat.{snapshot}
 use Rattle.machine_model.specs.Run.{Course, advanced, advanced_with}
-use Rattle.race_top.specs.Course.{course_of}
+use Rattle.concrete_machine.specs.Course.{course_of}
 use Rattle.race_top.specs.OrderEnforcer.{FindsPoint}
 use Rattle.race_top.proofs.Moments.{drop-next, moments-begun, moments-chosen, moments-none, moments-onward, moments-over, moments-spent}
 use Rattle.race_top.proofs.Points.{Recalls-next, none-chosen, point-here, point-none, point-of, thread-chosen}

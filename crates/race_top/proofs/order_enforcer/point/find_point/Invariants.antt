@@ -4,7 +4,7 @@ use Rattle.machine_model.specs.Moment.{from_turn, moments_from}
 use Rattle.machine_model.specs.Primary.{setting_of}
 use Rattle.machine_model.specs.Reach.{from_first, primary_moments}
 use Rattle.machine_model.specs.Repeat.{snapshot}
-use Rattle.race_top.specs.Course.{IsOf, course_of}
+use Rattle.concrete_machine.specs.Course.{IsOf, course_of}
 use Rattle.race_top.specs.Past.{Recalls}
 use Rattle.race_top.proofs.order_enforcer.point.find_point.Given as goal
 

@@ -1,7 +1,7 @@
 use Rattle.std.proofs.Common.{ap, sym}
 use Rattle.machine_model.specs.Job.{point_at}
 use Rattle.machine_model.specs.Moment.{Moment}
-use Rattle.race_top.specs.Course.{course_of}
+use Rattle.concrete_machine.specs.Course.{course_of}
 use Rattle.race_top.proofs.order_enforcer.point.point_of.Goals as goal
 
 pub returns-in_default-clause-point : goal.returns-in_default-clause-point

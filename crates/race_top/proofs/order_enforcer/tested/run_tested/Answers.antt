@@ -1,5 +1,5 @@
 use Rattle.std.proofs.Common.{◌+◌, ◌-◌, sym, ◌∙◌, arith}
-use Rattle.race_top.specs.Course.{course_of}
+use Rattle.concrete_machine.specs.Course.{course_of}
 use Rattle.race_top.proofs.Tested.{remains-onward, remains-over, remains-repeat, remains-spent}
 use Rattle.race_top.proofs.order_enforcer.tested.run_tested.Goals as goal
 

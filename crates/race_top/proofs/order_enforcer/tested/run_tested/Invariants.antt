@@ -2,7 +2,7 @@ use Rattle.std.proofs.Common.{◌+◌, ◌-◌, ◌^◌, ◌<◌, List}
 use Rattle.machine_model.specs.Primary.{setting_of}
 use Rattle.machine_model.specs.Repeat.{Snapshot}
 use Rattle.machine_model.specs.TestedRun.{tested_on}
-use Rattle.race_top.specs.Course.{IsOf, course_of}
+use Rattle.concrete_machine.specs.Course.{IsOf, course_of}
 use Rattle.race_top.specs.Past.{Recalls}
 use Rattle.race_top.proofs.Tested.{Remains}
 use Rattle.race_top.proofs.order_enforcer.tested.run_tested.Given as goal

@@ -1,6 +1,6 @@
 use Rattle.std.proofs.Common.{◌+◌, ◌-◌, ◌∙◌, arith, ap}
 use Rattle.machine_model.specs.Primary.{setting_of}
-use Rattle.race_top.specs.Course.{choice_of, course_of}
+use Rattle.concrete_machine.specs.Course.{choice_of, course_of}
 use Rattle.race_top.specs.Seen.{recorded_from}
 use Rattle.race_top.proofs.Moments.{moments-chooser, moments-chosen, moments-none}
 use Rattle.race_top.proofs.trace_replay.seen.due_turn.Goals as goal

@@ -2,7 +2,7 @@ use Rattle.std.proofs.Common.{◌≡◌, ◌+◌, ◌-◌, ◌∷◌, drop, arit
 use Rattle.std.proofs.lemmas.List.{drop_all}
 use Rattle.machine_model.specs.Moment.{Moment}
 use Rattle.machine_model.specs.Primary.{setting_of}
-use Rattle.race_top.specs.Course.{course_of}
+use Rattle.concrete_machine.specs.Course.{course_of}
 use Rattle.race_top.specs.Seen.{recorded_from}
 use Rattle.race_top.proofs.Moments.{drop-next, length-left, moments-few, moments-onward, moments-over, threads_of-next}
 use Rattle.race_top.proofs.trace_replay.seen.go_on.Goals as goal

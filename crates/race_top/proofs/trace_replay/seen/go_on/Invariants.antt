@@ -1,5 +1,5 @@
 use Rattle.std.proofs.Common.{◌≡◌, ◌-◌, ◌++◌, drop, take}
-use Rattle.race_top.specs.Course.{IsOf, course_of}
+use Rattle.concrete_machine.specs.Course.{IsOf, course_of}
 use Rattle.race_top.specs.Seen.{recorded_from, threads_of}
 use Rattle.race_top.proofs.trace_replay.seen.go_on.Given as goal
 

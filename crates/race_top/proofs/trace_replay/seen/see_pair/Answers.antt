@@ -1,7 +1,7 @@
 use Rattle.std.proofs.Common.{◌+◌, ◌-◌, ◌==◌, count_by, drop, length, take, refl, sym, ap, ◌∙◌, arith}
 use Rattle.machine_model.specs.Primary.{setting_of}
 use Rattle.machine_model.specs.Reach.{primary_moments}
-use Rattle.race_top.specs.Course.{course_of}
+use Rattle.concrete_machine.specs.Course.{course_of}
 use Rattle.race_top.specs.Seen.{moment_due, recorded_from, threads_of}
 use Rattle.race_top.proofs.Moments.{moments-begun, slice_get-here}
 use Rattle.race_top.proofs.SeenPairs.{few-threads, first-count, from-start, second-none, second-of, second-past, slice_get-empty}

@@ -1,6 +1,6 @@
 use Rattle.std.proofs.Common.{refl}
 use Rattle.machine_model.specs.Repeat.{snapshot}
-use Rattle.race_top.specs.Course.{course_of}
+use Rattle.concrete_machine.specs.Course.{course_of}
 use Rattle.race_top.proofs.Pasts.{recalls-start}
 use Rattle.race_top.proofs.order_enforcer.past.Past.begin.Goals as goal
 

@@ -1,8 +1,8 @@
 use Rattle.std.proofs.Common.{refl, ap, arith}
 use Rattle.std.proofs.lemmas.Result.{on_ok_weaker}
 use Rattle.machine_model.specs.Repeat.{snapshot}
+use Rattle.concrete_machine.specs.Course.{course_of}
 use Rattle.race_top.specs.declared.order_enforcer.past.Past.{Past}
-use Rattle.race_top.specs.Course.{course_of}
 use Rattle.race_top.specs.Past.{snapshot_of}
 use Rattle.race_top.proofs.Pasts.{recalls-kept, recalls-passed}
 use Rattle.race_top.proofs.order_enforcer.past.Past.note.Goals as goal

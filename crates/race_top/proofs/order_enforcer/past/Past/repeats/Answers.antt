@@ -1,7 +1,7 @@
 use Rattle.std.proofs.Common.{sym, ◌∙◌, arith}
 use Rattle.std.proofs.lemmas.Bool.Decides.{nat_tests}
 use Rattle.machine_model.specs.Repeat.{snapshot}
-use Rattle.race_top.specs.Course.{course_of}
+use Rattle.concrete_machine.specs.Course.{course_of}
 use Rattle.race_top.proofs.Pasts.{repeats-kept, repeats-none}
 use Rattle.race_top.proofs.order_enforcer.past.Past.repeats.Goals as goal
 

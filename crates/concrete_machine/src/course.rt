@@ -8,9 +8,9 @@ ghost use Rattle.machine_model.specs.Primary.{setting_of};
 ghost use Rattle.machine_model.specs.Run.{advanced, advanced_with, begun, told};
 ghost use Rattle.machine_model.specs.Runnable.{IsRunnable};
 ghost use Rattle.machine_model.specs.Setting.{Setting};
-ghost use Rattle.race_top.specs.Course.{ChoosesTurn, GoesOn, IsOf, advance_of, choice_of, course_of, left_in};
+ghost use Rattle.concrete_machine.specs.Course.{ChoosesTurn, GoesOn, IsOf, advance_of, choice_of, course_of, left_in};
 
-use concrete_machine::Machine;
+use crate::machine::Machine;
 use ir_types::{Input, Module};
 use machine_model::{Access, Case, Outcome, Run, TurnEnd};
 use rc_base::{NoMemory, Steps};

@@ -5,11 +5,11 @@ use Rattle.machine_model.specs.declared.case.Case.{Case}
 use Rattle.machine_model.specs.Policy.{Choice}
 use Rattle.machine_model.specs.Run.{Advance, Course}
 use Rattle.machine_model.specs.Run.Advance.{Onward, Over}
-use Rattle.concrete_machine.specs.Machine.{Runs}
 use Rattle.rc_base.specs.declared.failures.NoMemory.{NoMemory}
-use Rattle.race_top.specs.declared.course.Advance.{Advance as Answer}
-use Rattle.race_top.specs.declared.course.Advance.TheVariants as answers
-use Rattle.race_top.specs.declared.course.Course.{Course as Kept}
+use Rattle.concrete_machine.specs.declared.course.Advance.{Advance as Answer}
+use Rattle.concrete_machine.specs.declared.course.Advance.TheVariants as answers
+use Rattle.concrete_machine.specs.declared.course.Course.{Course as Kept}
+use Rattle.concrete_machine.specs.Machine.{Runs}
 
 abbrev pub course_of : Kept → Course
 course_of kept = record {

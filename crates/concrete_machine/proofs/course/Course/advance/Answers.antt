@@ -1,4 +1,4 @@
-use Rattle.race_top.proofs.course.Course.advance.Goals as goal
+use Rattle.concrete_machine.proofs.course.Course.advance.Goals as goal
 
 pub take-requires-clause-of : goal.take-requires-clause-of
 take-requires-clause-of g c = c.in_ok-thread.ensures.of c.args.code.now c.args.case.now c.requires
