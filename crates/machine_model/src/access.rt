@@ -1,6 +1,6 @@
 //! Accesses of memory that are turns of their own.
 
-ghost use Rattle.std.specs.Prelude.{◌≡◌};
+ghost use Rattle.std.specs.Prelude.{◌≡◌, ◌+◌, nat_lt};
 ghost use Rattle.machine_model.specs.Access.{access_of, conflicts, is_site, overlaps};
 
 use crate::pending::Pending;
@@ -43,13 +43,18 @@ impl Access {
         self.site.function == site.function && self.site.inst == site.inst
     }
 
+    /// Whether the range ends behind an address. Its end may be past the last address.
+    fn ends_behind(&self, at: u64) -> bool
+        ensures { result ≡ nat_lt at (self.now.at + self.now.len) }
+    {
+        at < self.at || at - self.at < u64::from(self.len)
+    }
+
     /// Whether the ranges have a byte in common.
     pub fn overlaps(&self, other: &Access) -> bool
         ensures { result ≡ overlaps self.now other.now }
     {
-        let end = u128::from(self.at) + u128::from(self.len);
-        let other_end = u128::from(other.at) + u128::from(other.len);
-        u128::from(self.at) < other_end && u128::from(other.at) < end
+        other.ends_behind(self.at) && self.ends_behind(other.at)
     }
 
     /// Whether the accesses conflict: they have a byte in common, and one of them is a store.
