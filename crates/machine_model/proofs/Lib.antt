@@ -10,8 +10,10 @@ pub mod JobReplays
 pub mod Larger
 pub mod Leading
 pub mod Moments
+pub mod OtherBytes
 pub mod OtherOrder
 pub mod Payment
+pub mod Places
 pub mod Policies
 pub mod PolicyEquality
 pub mod Powers
@@ -22,5 +24,6 @@ pub mod RunReturns
 pub mod StateEquality
 pub mod Steps
 pub mod Stored
+pub mod Stores
 pub mod Unrepeated
 pub mod Waiting

@@ -1,9 +1,7 @@
 -- What holds of every turn and run, whatever the module, the input, the watched sites and the listed turns.
-use Rattle.std.specs.Prelude.{◌≡◌, ◌≢◌, ℕ, ◌+◌, ◌%◌, ◌^◌, ◌<◌, ◌≤◌, List, length, Ok}
+use Rattle.std.specs.Prelude.{◌≡◌, ◌≢◌, ℕ, ◌+◌, ◌<◌, ◌≤◌, List, length}
 use Rattle.machine_model.specs.declared.run.Outcome.TheVariants.{Spent}
-use Rattle.machine_model.specs.declared.state.Object.{Object}
 use Rattle.machine_model.specs.Effect.{Footprint}
-use Rattle.machine_model.specs.Memory.{read, written}
 use Rattle.machine_model.specs.Run.{begun, run_from, run_of}
 use Rattle.machine_model.specs.Setting.{Setting}
 use Rattle.machine_model.specs.Turn.{ran, ran_on}
@@ -32,9 +30,3 @@ LargerBudgetKeepsRun =
     (setting : Setting) (listed : List ℕ) (steps more : ℕ) →
     steps ≤ more → (run_of setting listed steps).outcome ≢ Spent →
     run_of setting listed more ≡ run_of setting listed steps
-
--- a load gives the lowest bytes of what was stored in its range
-abbrev pub StoredIsLoaded : Type 0
-StoredIsLoaded =
-    (objects after : List Object) (at len number : ℕ) → written objects at len number ≡ Ok after →
-    read after at len ≡ Ok (number % 256 ^ len)

@@ -14,6 +14,7 @@ pub mod JobLaws
 pub mod JobReplays
 pub mod Laws
 pub mod Memory
+pub mod MemoryLaws
 pub mod Moment
 pub mod Operation
 pub mod OtherOrder

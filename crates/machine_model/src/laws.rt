@@ -9,7 +9,8 @@ ghost use Rattle.machine_model.specs.HoldLaws.{EndsHaveCauses, HeldThreadWaits};
 ghost use Rattle.machine_model.specs.Job.Alternate.{Not};
 ghost use Rattle.machine_model.specs.JobLaws.{MomentsAreTurns, UnrepeatedIsRun};
 ghost use Rattle.machine_model.specs.JobReplays.{AlternateReplays, PrimaryJobReplays};
-ghost use Rattle.machine_model.specs.Laws.{LargerBudgetKeepsRun, RunIsWithinBudget, RunNeedsNoMore, StoredIsLoaded, TurnNeedsNoMore};
+ghost use Rattle.machine_model.specs.Laws.{LargerBudgetKeepsRun, RunIsWithinBudget, RunNeedsNoMore, TurnNeedsNoMore};
+ghost use Rattle.machine_model.specs.MemoryLaws.{StoreKeepsExtents, StoreKeepsOtherBytes, StoredIsLoaded};
 ghost use Rattle.machine_model.specs.OtherOrder.{OrderIsTurnedRound};
 ghost use Rattle.machine_model.specs.PolicyLaws.{ChoiceIsEnabled, ChoiceIsLast, ChoosesUnlessNone, ListedIsChosen, ReleaseKeepsPlace, TakesTurns};
 ghost use Rattle.machine_model.specs.RaceExample.{both_turns, first_turns, leaving_alternate, ordered_alternate, other_order, printed_byte, prints, recorded_order, turned_by_numbers, turned_round, up_to_join};
@@ -90,6 +91,12 @@ pub fn jobs_replay()
 /// Memory gives back what was stored.
 pub fn stored_is_loaded()
     ensures { StoredIsLoaded }
+{}
+
+/// A store makes, moves and ends no object, and leaves all bytes but its own.
+pub fn store_keeps_others()
+    ensures extents { StoreKeepsExtents }
+    ensures bytes { StoreKeepsOtherBytes }
 {}
 
 /// The worked example of the machine reference: its run, two runs that are cut, and what its turns cost.
