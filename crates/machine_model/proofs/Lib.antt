@@ -1,11 +1,14 @@
 pub mod Accounts
+pub mod Apart
 pub mod Budget
 pub mod Bytes
 pub mod Cases
+pub mod Changes
 pub mod Choices
 pub mod Courses
 pub mod HoldCases
 pub mod HoldLaws
+pub mod Invariants
 pub mod JobReplays
 pub mod Larger
 pub mod Leading

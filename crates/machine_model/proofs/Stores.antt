@@ -30,6 +30,11 @@ IsCovered-from_test at len object h =
       high = leb-true (at + len) (object.base + length object.bytes) parts.1;
     }
 
+pub is_live-from_test : (at len : ℕ) (object : Object) → covers at len object ≡ true → object.live ≡ true
+is_live-from_test at len object h =
+    (both object.live (leb object.base at)
+    (both (object.live && leb object.base at) (leb (at + len) (object.base + length object.bytes)) h).0).0
+
 -- writing within an object leaves it as long as it was
 pub length-with_bytes : (at len number : ℕ) (object : Object) → IsCovered at len object →
     length (with_bytes object at (bytes_of len number)).bytes ≡ length object.bytes

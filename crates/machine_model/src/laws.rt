@@ -10,7 +10,7 @@ ghost use Rattle.machine_model.specs.Job.Alternate.{Not};
 ghost use Rattle.machine_model.specs.JobLaws.{MomentsAreTurns, UnrepeatedIsRun};
 ghost use Rattle.machine_model.specs.JobReplays.{AlternateReplays, PrimaryJobReplays};
 ghost use Rattle.machine_model.specs.Laws.{LargerBudgetKeepsRun, RunIsWithinBudget, RunNeedsNoMore, TurnNeedsNoMore};
-ghost use Rattle.machine_model.specs.MemoryLaws.{StoreKeepsExtents, StoreKeepsOtherBytes, StoredIsLoaded};
+ghost use Rattle.machine_model.specs.MemoryLaws.{DeathKeepsApart, MomentsAreApart, OneHasRange, StoreKeepsApart, StoreKeepsExtents, StoreKeepsOtherBytes, StoredIsLoaded, TurnKeepsApart};
 ghost use Rattle.machine_model.specs.OtherOrder.{OrderIsTurnedRound};
 ghost use Rattle.machine_model.specs.PolicyLaws.{ChoiceIsEnabled, ChoiceIsLast, ChoosesUnlessNone, ListedIsChosen, ReleaseKeepsPlace, TakesTurns};
 ghost use Rattle.machine_model.specs.RaceExample.{both_turns, first_turns, leaving_alternate, ordered_alternate, other_order, printed_byte, prints, recorded_order, turned_by_numbers, turned_round, up_to_join};
@@ -97,6 +97,16 @@ pub fn stored_is_loaded()
 pub fn store_keeps_others()
     ensures extents { StoreKeepsExtents }
     ensures bytes { StoreKeepsOtherBytes }
+{}
+
+/// Live objects don't overlap: where the globals don't, the objects of every moment of a run don't, since stores, the
+/// death of objects and turns keep it. Then at most one object has a range of bytes.
+pub fn objects_are_apart()
+    ensures range { OneHasRange }
+    ensures store { StoreKeepsApart }
+    ensures death { DeathKeepsApart }
+    ensures turn { TurnKeepsApart }
+    ensures moments { MomentsAreApart }
 {}
 
 /// The worked example of the machine reference: its run, two runs that are cut, and what its turns cost.
