@@ -16,6 +16,7 @@ pub mod Moments
 pub mod OtherBytes
 pub mod OtherOrder
 pub mod Payment
+pub mod PendingThreads
 pub mod Places
 pub mod Policies
 pub mod PolicyEquality

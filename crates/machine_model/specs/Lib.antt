@@ -18,6 +18,7 @@ pub mod MemoryLaws
 pub mod Moment
 pub mod Operation
 pub mod OtherOrder
+pub mod PendingLaws
 pub mod Policy
 pub mod PolicyLaws
 pub mod Primary

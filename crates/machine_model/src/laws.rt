@@ -12,6 +12,7 @@ ghost use Rattle.machine_model.specs.JobReplays.{AlternateReplays, PrimaryJobRep
 ghost use Rattle.machine_model.specs.Laws.{LargerBudgetKeepsRun, RunIsWithinBudget, RunNeedsNoMore, TurnNeedsNoMore};
 ghost use Rattle.machine_model.specs.MemoryLaws.{DeathKeepsApart, MomentsAreApart, OneHasRange, StoreKeepsApart, StoreKeepsExtents, StoreKeepsOtherBytes, StoredIsLoaded, TurnKeepsApart};
 ghost use Rattle.machine_model.specs.OtherOrder.{OrderIsTurnedRound};
+ghost use Rattle.machine_model.specs.PendingLaws.{MomentsArePending, StartedArePending, TurnKeepsPending};
 ghost use Rattle.machine_model.specs.PolicyLaws.{ChoiceIsEnabled, ChoiceIsLast, ChoosesUnlessNone, ListedIsChosen, ReleaseKeepsPlace, TakesTurns};
 ghost use Rattle.machine_model.specs.RaceExample.{both_turns, first_turns, leaving_alternate, ordered_alternate, other_order, printed_byte, prints, recorded_order, turned_by_numbers, turned_round, up_to_join};
 ghost use Rattle.machine_model.specs.RepeatLaws.{EarlierTurnIsPower, SamePolicyIsEqual, SameStateIsEqual};
@@ -107,6 +108,14 @@ pub fn objects_are_apart()
     ensures death { DeathKeepsApart }
     ensures turn { TurnKeepsApart }
     ensures moments { MomentsAreApart }
+{}
+
+/// Between turns a thread that has not ended waits to start, or to run its next instruction, with the addresses that
+/// this has in the thread's frame: so it is at the start, and after each turn of any thread.
+pub fn pending_is_next()
+    ensures started { StartedArePending }
+    ensures turn { TurnKeepsPending }
+    ensures moments { MomentsArePending }
 {}
 
 /// The worked example of the machine reference: its run, two runs that are cut, and what its turns cost.
