@@ -10,7 +10,7 @@
 --   differing   main joins both and prints @g; the last store decides
 --   ordered     thread 2 joins thread 1 before its store
 --   leaving     the same, and main returns without joining
-use Rattle.std.specs.Prelude.{ℕ, List, [], ◌∷◌, ◌++◌, Option, Some, None, Bool, true, false}
+use Rattle.std.specs.Prelude.{ℕ, List, [], ◌∷◌, ◌++◌, Option, Some, None, false}
 use Rattle.std.proofs.Common.{lit<}
 use Rattle.ir_types.specs.declared.external.Extern.TheVariants.{Create, Join, Putchar}
 use Rattle.ir_types.specs.declared.external.ItemKind.TheVariants.{Byte, Status}
@@ -28,7 +28,6 @@ use Rattle.ir_types.specs.declared.«module».GlobalVar.{GlobalVar}
 use Rattle.machine_model.specs.declared.case.Case.{Case}
 use Rattle.machine_model.specs.declared.race.Race.{Race}
 use Rattle.machine_model.specs.declared.run.Outcome.{Outcome}
-use Rattle.machine_model.specs.declared.run.Reason.TheVariants.{Stuck, Ended}
 use Rattle.machine_model.specs.declared.run.Run.{Run}
 use Rattle.machine_model.specs.declared.state.OutItem.{OutItem}
 use Rattle.machine_model.specs.Example.{at_g, at_t, null, t, zero}
