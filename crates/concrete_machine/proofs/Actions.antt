@@ -16,10 +16,11 @@ use Rattle.machine_model.specs.Code.{Placed}
 use Rattle.machine_model.specs.Call.{call_of, is_blocked}
 use Rattle.machine_model.specs.Decision.{outcomes_of}
 use Rattle.machine_model.specs.Effect.{Effect, mapped}
-use Rattle.machine_model.specs.Effect.Effect.{Done, Exits, Traps, Blocks, NoRow}
+use Rattle.machine_model.specs.Effect.Effect.{Done, Pauses, Exits, Traps, Blocks, NoRow}
 use Rattle.machine_model.specs.Instruction.{effect_of}
-use Rattle.machine_model.specs.Operation.{charged_for_items, footprint_of, put_back, returned, visible_effect}
+use Rattle.machine_model.specs.Operation.{charged_for_items, footprint_of, made_by, put_back, returned, visible_effect}
 use Rattle.machine_model.specs.Setting.{Setting}
+use Rattle.machine_model.specs.Shared.{shared_of}
 use Rattle.machine_model.specs.Thread.{top, value_of}
 use Rattle.machine_model.specs.Step.{first_step_at, first_step_in}
 use Rattle.machine_model.specs.Turn.{Move, charged, paid, stops}
@@ -30,12 +31,15 @@ use Rattle.concrete_machine.specs.Operation.{Acts, IsTopOf, items_of}
 
 -- a call that is not blocked is made
 visible_call : (setting : Setting) (state : State) (number : ℕ) (thread : Thread) (frame : Frame) (decided : List ℕ)
-    (to : Option ℕ) (which : Extern) (arguments : List Operand) → is_blocked state which decided ≡ false →
+    (to : Option ℕ) (which : Extern) (arguments : List Operand) → is_blocked (shared_of state) number which decided ≡ false →
+    let values = map (value_of frame) arguments in
     visible_effect setting state number thread frame decided (External to which arguments)
-    ≡ charged_for_items (returned state.output number frame to) (call_of setting state which (map (value_of frame) arguments) decided)
+    ≡ charged_for_items (returned state (made_by setting.code which values) number frame to) (call_of (shared_of state) number which values decided)
 unfolding visible_effect
 visible_call setting state number thread frame decided to which arguments free =
-    ap (λ test. cond test Blocks (charged_for_items (returned state.output number frame to) (call_of setting state which (map (value_of frame) arguments) decided))) free
+    let values = map (value_of frame) arguments in
+    ap (λ test. cond test Blocks
+    (charged_for_items (returned state (made_by setting.code which values) number frame to) (call_of (shared_of state) number which values decided))) free
 
 -- all but calls and returns change only their thread and the objects
 visible_other : (setting : Setting) (state : State) (number : ℕ) (thread : Thread) (frame : Frame) (decided : List ℕ) (inst : Inst) →
@@ -54,6 +58,8 @@ charged_none : {S : Type 0} (before : S) (left : ℕ) (decided : List ℕ) (site
     charged before left decided site effect ≡ stops before left decided Spent
 unfolding charged
 charged_none before left decided site (Done more after) none =
+    let short : leb left more ≡ true = le-leb left more (omega arith) in rw short refl
+charged_none before left decided site (Pauses more after) none =
     let short : leb left more ≡ true = le-leb left more (omega arith) in rw short refl
 charged_none before left decided site (Exits more status after) none =
     let short : leb left more ≡ true = le-leb left more (omega arith) in rw short refl
@@ -77,9 +83,10 @@ charged_short setting state number left thread frame outcomes decided site inst 
 -- what a call that is not blocked did
 pub acts_call : (action : Action) (setting : Setting) (before after : State) (number : ℕ) (thread : Thread) (frame : Frame)
     (decided : List ℕ) (inst : Inst) (to : Option ℕ) (which : Extern) (arguments : List Operand) →
-    inst ≡ External to which arguments → is_blocked before which decided ≡ false →
+    inst ≡ External to which arguments → is_blocked (shared_of before) number which decided ≡ false →
+    let values = map (value_of frame) arguments in
     Acts action (items_of_call which) before after
-    (charged_for_items (returned before.output number frame to) (call_of setting before which (map (value_of frame) arguments) decided)) →
+    (charged_for_items (returned before (made_by setting.code which values) number frame to) (call_of (shared_of before) number which values decided)) →
     Acts action (items_of inst) before after (visible_effect setting before number thread frame decided inst)
 acts_call action setting before after number thread frame decided inst to which arguments is free acts =
     let AtEffect : Effect State → Type 0 = λ effect. Acts action (items_of_call which) before after effect in

@@ -18,46 +18,47 @@ use Rattle.machine_model.specs.Code.{Placed, next_in}
 use Rattle.machine_model.specs.Enabled.{is_enabled, waits, waits_at, waits_for, waits_in}
 use Rattle.machine_model.specs.Enabled.{may_run as may_run_in}
 use Rattle.machine_model.specs.Setting.{Setting}
+use Rattle.machine_model.specs.Shared.{shared_of}
 use Rattle.machine_model.specs.Thread.{has_ended, top}
 use Rattle.concrete_machine.specs.declared.waiting.Waiting.{Waiting}
 use Rattle.concrete_machine.specs.Waiting.{awaits, joined, joined_by, joined_in, joined_inst, joined_placed, may_run, waiting_of}
 
 -- a call waits for the thread that it joins
-blocked-awaits : (state : State) (decided : List ℕ) (which : Extern) →
-    is_blocked state which decided ≡ awaits state.threads (joined_by which decided)
+blocked-awaits : (state : State) (number : ℕ) (decided : List ℕ) (which : Extern) →
+    is_blocked (shared_of state) number which decided ≡ awaits state.threads (joined_by which decided)
 unfolding is_blocked
-blocked-awaits state decided Join = refl
-blocked-awaits state decided which = refl
+blocked-awaits state number decided Join = refl
+blocked-awaits state number decided which = refl
 
-waits_for-awaits : (state : State) (decided : List ℕ) (inst : Inst) →
-    waits_for state decided inst ≡ awaits state.threads (joined_inst decided inst)
+waits_for-awaits : (state : State) (number : ℕ) (decided : List ℕ) (inst : Inst) →
+    waits_for (shared_of state) number decided inst ≡ awaits state.threads (joined_inst decided inst)
 unfolding waits_for
-waits_for-awaits state decided (External to which arguments) = blocked-awaits state decided which
-waits_for-awaits state decided inst = refl
+waits_for-awaits state number decided (External to which arguments) = blocked-awaits state number decided which
+waits_for-awaits state number decided inst = refl
 
-waits_at-awaits : (state : State) (decided : List ℕ) (placed : Option Placed) →
-    waits_at state decided placed ≡ awaits state.threads (joined_placed decided placed)
-waits_at-awaits state decided None = refl
-waits_at-awaits state decided (Some placed) = waits_for-awaits state decided placed.inst
+waits_at-awaits : (state : State) (number : ℕ) (decided : List ℕ) (placed : Option Placed) →
+    waits_at (shared_of state) number decided placed ≡ awaits state.threads (joined_placed decided placed)
+waits_at-awaits state number decided None = refl
+waits_at-awaits state number decided (Some placed) = waits_for-awaits state number decided placed.inst
 
-waits_in-awaits : (setting : Setting) (state : State) (decided : List ℕ) (frame : Option Frame) →
-    waits_in setting state decided frame ≡ awaits state.threads (joined_in setting.code decided frame)
-waits_in-awaits setting state decided None = refl
-waits_in-awaits setting state decided (Some frame) = waits_at-awaits state decided (next_in setting.code frame)
+waits_in-awaits : (setting : Setting) (state : State) (number : ℕ) (decided : List ℕ) (frame : Option Frame) →
+    waits_in setting (shared_of state) number decided frame ≡ awaits state.threads (joined_in setting.code decided frame)
+waits_in-awaits setting state number decided None = refl
+waits_in-awaits setting state number decided (Some frame) = waits_at-awaits state number decided (next_in setting.code frame)
 
-waits-awaits : (setting : Setting) (state : State) (thread : Thread) (operation : Operation) →
-    waits setting state thread operation ≡ awaits state.threads (joined setting.code thread operation)
+waits-awaits : (setting : Setting) (state : State) (number : ℕ) (thread : Thread) (operation : Operation) →
+    waits setting (shared_of state) number thread operation ≡ awaits state.threads (joined setting.code thread operation)
 unfolding waits joined
-waits-awaits setting state thread Start = refl
-waits-awaits setting state thread (At site decided) = waits_in-awaits setting state decided (top thread)
-waits-awaits setting state thread (CondReturn site decided) = refl
-waits-awaits setting state thread Nothing = refl
+waits-awaits setting state number thread Start = refl
+waits-awaits setting state number thread (At site decided) = waits_in-awaits setting state number decided (top thread)
+waits-awaits setting state number thread (CondReturn site decided) = refl
+waits-awaits setting state number thread Nothing = refl
 
-may_run-listed : (setting : Setting) (state : State) (thread : Option Thread) →
-    may_run state.threads thread (option_map (waiting_of setting.code) thread) ≡ may_run_in setting state thread
-may_run-listed setting state None = refl
-may_run-listed setting state (Some thread) =
-    ap (λ waits. not (has_ended thread) && not waits) (sym (waits-awaits setting state thread thread.pending))
+may_run-listed : (setting : Setting) (state : State) (number : ℕ) (thread : Option Thread) →
+    may_run state.threads thread (option_map (waiting_of setting.code) thread) ≡ may_run_in setting (shared_of state) number thread
+may_run-listed setting state number None = refl
+may_run-listed setting state number (Some thread) =
+    ap (λ waits. not (has_ended thread) && not waits) (sym (waits-awaits setting state number thread thread.pending))
 
 -- what the threads wait to do tells which may run
 pub enabled-listed : (setting : Setting) (state : State) (waiting : List Waiting) (number : ℕ) →
@@ -67,7 +68,7 @@ unfolding is_enabled
 enabled-listed setting state waiting number are =
     ap (λ found. may_run state.threads (slice_get state.threads number) found)
     (ap (λ list. slice_get list number) are ∙ slice_get-map (waiting_of setting.code) state.threads number)
-    ∙ may_run-listed setting state (slice_get state.threads number)
+    ∙ may_run-listed setting state number (slice_get state.threads number)
 
 range_more : (a n : ℕ) → range_with_len a (n + 1) ≡ range_with_len a n ++ (a + n) ∷ []
 range_more a zero = rw add-zero

@@ -1,4 +1,5 @@
 pub mod Actions
+pub mod Calls
 pub mod Cost
 pub mod Enabled
 pub mod Moves

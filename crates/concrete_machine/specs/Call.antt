@@ -1,5 +1,5 @@
 -- What the code of external calls answers.
-use Rattle.std.specs.Prelude.{◌≡◌, ℕ, ◌<◌, ◌==◌, List, [], length, slice_get, Option, Some, None, Result, Ok, Err, option_to_list, if◌then◌else◌}
+use Rattle.std.specs.Prelude.{◌≡◌, ℕ, ◌<◌, ◌==◌, List, [], length, slice_get, Option, Some, None, Result, Ok, Err, option_to_list, unwrap_or, if◌then◌else◌}
 use Rattle.ir_types.specs.declared.external.Extern.{Extern}
 use Rattle.ir_types.specs.declared.external.Extern.TheVariants.{Putchar}
 use Rattle.machine_model.specs.declared.state.Frame.{Frame}
@@ -7,19 +7,23 @@ use Rattle.machine_model.specs.declared.state.Object.{Object}
 use Rattle.machine_model.specs.declared.state.State.{State}
 use Rattle.machine_model.specs.declared.state.Thread.{Thread}
 use Rattle.machine_model.specs.declared.trap.Trap.{Trap}
-use Rattle.machine_model.specs.Call.{Returned, result_of}
+use Rattle.machine_model.specs.Call.{Returned}
 use Rattle.machine_model.specs.Effect.{Effect}
 use Rattle.machine_model.specs.Effect.Effect.{Done, Traps, NoRow}
 use Rattle.machine_model.specs.Memory.{written}
+use Rattle.machine_model.specs.Operation.{changed_by}
+use Rattle.machine_model.specs.Shared.{shared_of}
 use Rattle.concrete_machine.specs.declared.call.Called.{Called}
 use Rattle.concrete_machine.specs.declared.call.Called.TheVariants as calls
 
--- what a call answers: the result and what is printed, with the state that it leaves
-abbrev pub Calls : Called → State → State → Effect Returned → Type 0
-Calls (calls.Returns result item) before after effect =
-    effect ≡ Done 0 (record { state = after; result = result; items = option_to_list item })
-Calls (calls.Traps trap) before after effect = (effect ≡ Traps trap) × (after ≡ before)
-Calls calls.NoRow before after effect = (effect ≡ NoRow) × (after ≡ before)
+-- what a call answers that creates these threads, if it creates any: the result and what is printed, with the state that
+-- it leaves
+abbrev pub Calls : Called → List Thread → State → State → Effect Returned → Type 0
+Calls (calls.Returns result item) others before after effect =
+    (effect ≡ Done 0 (record { shared = shared_of after; result = result; items = option_to_list item }))
+    × (after ≡ changed_by before others (shared_of after))
+Calls (calls.Traps trap) others before after effect = (effect ≡ Traps trap) × (after ≡ before)
+Calls calls.NoRow others before after effect = (effect ≡ NoRow) × (after ≡ before)
 
 -- how many items a call printed
 abbrev pub Prints : ℕ → Called → Type 0
@@ -39,7 +43,7 @@ KeepsFrames before after =
 -- the result of a thread that may be joined
 abbrev pub joinable : Option Thread → Option ℕ
 joinable None = None
-joinable (Some thread) = if thread.joined then None else Some (result_of (Some thread))
+joinable (Some thread) = if thread.joined then None else Some (unwrap_or thread.ended 0)
 
 -- the objects after a thread's result was stored, where a place for it is given
 abbrev pub stored : List Object → ℕ → ℕ → Result (List Object) Trap

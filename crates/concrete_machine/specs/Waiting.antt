@@ -1,5 +1,5 @@
 -- What a thread waits to do, and the thread that it joins.
-use Rattle.std.specs.Prelude.{ℕ, Bool, false, not, ◌&&◌, List, slice_get, slice_index, Option, Some, None}
+use Rattle.std.specs.Prelude.{ℕ, Bool, false, not, ◌&&◌, List, map, slice_get, slice_index, Option, Some, None}
 use Rattle.ir_types.specs.declared.external.Extern.{Extern}
 use Rattle.ir_types.specs.declared.external.Extern.TheVariants.{Join}
 use Rattle.ir_types.specs.declared.instruction.Inst.{Inst}
@@ -12,6 +12,7 @@ use Rattle.machine_model.specs.declared.state.Thread.{Thread}
 use Rattle.machine_model.specs.Access.{pending_operation}
 use Rattle.machine_model.specs.Call.{is_awaited}
 use Rattle.machine_model.specs.Code.{Placed, next_in}
+use Rattle.machine_model.specs.Shared.{end_of}
 use Rattle.machine_model.specs.Thread.{top, has_ended}
 use Rattle.concrete_machine.specs.declared.waiting.Waiting.{Waiting}
 
@@ -48,7 +49,7 @@ waiting_of code thread = record {
 -- the thread to be joined has to be waited for
 abbrev pub awaits : List Thread → Option ℕ → Bool
 awaits threads None = false
-awaits threads (Some number) = is_awaited (slice_get threads number)
+awaits threads (Some number) = is_awaited (slice_get (map end_of threads) number)
 
 -- a thread may run that has not ended and does not have to wait
 abbrev pub may_run : List Thread → Option Thread → Option Waiting → Bool

@@ -1,8 +1,11 @@
 //! The external calls that POSIX.1 threads and C's output functions give.
 
-ghost use Rattle.std.specs.Prelude.{◌≡◌, ◌<◌, ◌≤◌, ◌%◌, ℕ, IfOk, Some, length, slice_get, slice_index, slice_set, true};
+ghost use Rattle.std.specs.Prelude.{◌≡◌, ◌<◌, ◌≤◌, ◌%◌, [], ◌∷◌, ℕ, IfOk, List, Some, length, map, slice_get, slice_index, slice_set, true};
 ghost use Rattle.machine_model.specs.Call.{call_of, created, is_awaited, is_blocked, joined, printed};
 ghost use Rattle.machine_model.specs.Memory.{written};
+ghost use Rattle.machine_model.specs.Operation.{made_by};
+ghost use Rattle.machine_model.specs.Shared.{end_of, shared_of};
+ghost use Rattle.machine_model.specs.Thread.{made};
 ghost use Rattle.concrete_machine.specs.Call.{Calls, KeepsFrames, Prints, Refuses, items_of_call, joinable, stored, trap_or};
 ghost use Rattle.concrete_machine.specs.Memory.{Writes};
 
@@ -36,7 +39,7 @@ pub enum Called {
 
 /// Whether the thread was made, and neither has ended nor was joined.
 pub fn is_awaited(threads: &[Thread], number: u64) -> bool
-    ensures { result ≡ is_awaited (slice_get threads.now number) }
+    ensures { result ≡ is_awaited (slice_get (map end_of threads.now) number) }
 {
     match threads.get(number as usize) {
         Some(thread) => thread.ended.is_none() && !thread.joined,
@@ -47,7 +50,7 @@ pub fn is_awaited(threads: &[Thread], number: u64) -> bool
 /// Whether a call has to wait.
 #[tactic(auto, unfolding(machine_model::specs::Call::is_blocked))]
 pub fn is_blocked(state: &State, which: &Extern, decided: &[u64]) -> bool
-    ensures { result ≡ is_blocked state.now which.now decided.now }
+    ensures { (number : ℕ) → result ≡ is_blocked (shared_of state.now) number which.now decided.now }
 {
     match which {
         Extern::Join => is_awaited(&state.threads.items, number_at(decided, 0)),
@@ -66,7 +69,8 @@ fn create(
 ) -> Result<Called, NoMemory>
     requires few { length state.old.threads ≤ 16 }
     ensures value { IfOk result (λ called.
-        Calls called state.old state.new (created setting.now state.old function argument at)) }
+        Calls called (made setting.now.code function (argument ∷ []) ∷ []) state.old state.new
+        (created (shared_of state.old) at)) }
     ensures few { IfOk result (λ called. length state.new.threads ≤ 16) }
     ensures kept { IfOk result (λ called. length state.old.threads ≤ length state.new.threads) }
     ensures frames { IfOk result (λ called. KeepsFrames state.old.threads state.new.threads) }
@@ -149,7 +153,8 @@ fn mark_joined(threads: &mut [Thread], number: u64)
 
 /// Joins a thread that is not awaited, and stores its result.
 fn join(state: &mut State, number: u64, at: u64) -> Called
-    ensures value { Calls result state.old state.new (joined state.old number at) }
+    ensures value { (others : List Thread) →
+        Calls result others state.old state.new (joined (shared_of state.old) number at) }
     ensures count { length state.new.threads ≡ length state.old.threads }
     ensures frames { KeepsFrames state.old.threads state.new.threads }
     ensures output { state.new.output ≡ state.old.output }
@@ -169,8 +174,10 @@ fn join(state: &mut State, number: u64, at: u64) -> Called
 }
 
 /// Prints one byte; its result is used nowhere.
+#[tactic(auto, using(crate::proofs::Calls::state_stays))]
 fn print(byte: u8) -> Called
-    ensures value { (state : State) → Calls result state state (printed state byte) }
+    ensures value { (state : State) (others : List Thread) →
+        Calls result others state state (printed (shared_of state) byte) }
     ensures items { Prints 1 result }
 {
     Called::Returns {
@@ -184,7 +191,7 @@ fn print(byte: u8) -> Called
 
 /// Does a call that is not blocked, its numbers decided. What it prints is not yet in the output. What traps
 /// or has no row changes nothing.
-#[tactic(auto, unfolding(machine_model::specs::Call::call_of))]
+#[tactic(auto, unfolding(machine_model::specs::Call::call_of, machine_model::specs::Operation::made_by))]
 pub fn call(
     alloc: Global,
     setting: &Setting<'_>,
@@ -194,8 +201,9 @@ pub fn call(
     decided: &[u64],
 ) -> Result<Called, NoMemory>
     requires few { length state.old.threads ≤ 16 }
-    ensures value { IfOk result (λ called. Calls called state.old state.new
-        (call_of setting.now state.old which.now arguments.now decided.now)) }
+    ensures value { IfOk result (λ called. (number : ℕ) →
+        Calls called (made_by setting.now.code which.now arguments.now) state.old state.new
+        (call_of (shared_of state.old) number which.now arguments.now decided.now)) }
     ensures few { IfOk result (λ called. length state.new.threads ≤ 16) }
     ensures kept { IfOk result (λ called. length state.old.threads ≤ length state.new.threads) }
     ensures frames { IfOk result (λ called. KeepsFrames state.old.threads state.new.threads) }

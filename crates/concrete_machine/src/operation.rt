@@ -82,10 +82,10 @@ fn conclude(
     called: Called,
 ) -> Result<Action, NoMemory>
     requires { CanGoOn (slice_get state.old.threads number) }
-    ensures value { IfOk result (λ action. (count : ℕ) (before : State) (frame : Frame) (effect : Effects Returned) →
+    ensures value { IfOk result (λ action. (count : ℕ) (before : State) (others : List Thread) (frame : Frame) (effect : Effects Returned) →
         IsTop state.old number frame → Prints count called →
-        state.old.output ≡ before.output → Calls called before state.old effect →
-        Acts action count before state.new (charged_for_items (returned before.output number frame to) effect)) }
+        state.old.output ≡ before.output → Calls called others before state.old effect →
+        Acts action count before state.new (charged_for_items (returned before others number frame to) effect)) }
     ensures count { OnOk result (length state.new.threads ≡ length state.old.threads) }
 {
     match called {

@@ -15,11 +15,12 @@ use Rattle.machine_model.specs.declared.state.State.{State}
 use Rattle.machine_model.specs.declared.state.Thread.{Thread}
 use Rattle.machine_model.specs.Call.{Returned, is_blocked, call_of}
 use Rattle.machine_model.specs.Effect.{Effect, Footprint, mapped}
-use Rattle.machine_model.specs.Effect.Effect.{Done, Exits, Traps, Blocks, NoRow}
+use Rattle.machine_model.specs.Effect.Effect.{Done, Pauses, Exits, Traps, Blocks, NoRow}
 use Rattle.machine_model.specs.Instruction.{effect_of}
 use Rattle.machine_model.specs.Memory.{without}
-use Rattle.machine_model.specs.Operation.{visible_effect, charged_for_items, ended, returned, ends_with, unless_last, with_status, put_back, footprint_of}
+use Rattle.machine_model.specs.Operation.{visible_effect, charged_for_items, ended, made_by, returned, ends_with, unless_last, with_status, put_back, footprint_of}
 use Rattle.machine_model.specs.Setting.{Setting}
+use Rattle.machine_model.specs.Shared.{shared_of}
 use Rattle.machine_model.specs.Thread.{has_ended, value_of}
 use Rattle.machine_model.specs.Step.{Step, first_step, next_step}
 use Rattle.machine_model.specs.Step.Step.{Waits, Runs, Starts, Lacks}
@@ -33,21 +34,25 @@ use Rattle.machine_model.proofs.Steps.{each-first_step}
 abbrev pub Charges : State → Effect State → Type 0
 Charges before (Done more after) =
     (length before.output ≤ length after.output) × (length after.output ≤ length before.output + more)
+Charges before (Pauses more after) =
+    (length before.output ≤ length after.output) × (length after.output ≤ length before.output + more)
 Charges before (Exits more status after) =
     (length before.output ≤ length after.output) × (length after.output ≤ length before.output + more + 1)
 Charges before (Traps trap) = Unit {0}
 Charges before Blocks = Unit {0}
 Charges before NoRow = Unit {0}
 
-returned-charges : (state : State) (number : ℕ) (frame : Frame) (to : Option ℕ) (call : Effect Returned) →
-    Charges state (charged_for_items (returned state.output number frame to) call)
-returned-charges state number frame to (Done more call) =
+returned-charges : (state : State) (others : List Thread) (number : ℕ) (frame : Frame) (to : Option ℕ) (call : Effect Returned) →
+    Charges state (charged_for_items (returned state others number frame to) call)
+returned-charges state others number frame to (Done more call) =
     let long = length-append state.output call.items in (omega arith, omega arith)
-returned-charges state number frame to (Exits more status call) =
+returned-charges state others number frame to (Pauses more call) =
     let long = length-append state.output call.items in (omega arith, omega arith)
-returned-charges state number frame to (Traps trap) = tt
-returned-charges state number frame to Blocks = tt
-returned-charges state number frame to NoRow = tt
+returned-charges state others number frame to (Exits more status call) =
+    let long = length-append state.output call.items in (omega arith, omega arith)
+returned-charges state others number frame to (Traps trap) = tt
+returned-charges state others number frame to Blocks = tt
+returned-charges state others number frame to NoRow = tt
 
 status-charges : (before state : State) (more status : ℕ) → state.output ≡ before.output →
     Charges before (Exits more status (with_status state status))
@@ -75,6 +80,7 @@ ends_with-charges state number thread frame result =
 mapped-charges : (state : State) (number : ℕ) (effect : Effect Footprint) →
     Charges state (mapped (put_back state number) effect)
 mapped-charges state number (Done more after) = (omega arith, omega arith)
+mapped-charges state number (Pauses more after) = (omega arith, omega arith)
 mapped-charges state number (Exits more status after) = (omega arith, omega arith)
 mapped-charges state number (Traps trap) = tt
 mapped-charges state number Blocks = tt
@@ -84,10 +90,10 @@ visible_effect-charges : (setting : Setting) (state : State) (number : ℕ) (thr
     (decided : List ℕ) (inst : Inst) → Charges state (visible_effect setting state number thread frame decided inst)
 unfolding visible_effect
 visible_effect-charges setting state number thread frame decided (External to which arguments) =
-    by_test (Charges state) (is_blocked state which decided) _ _
+    by_test (Charges state) (is_blocked (shared_of state) number which decided) _ _
     (λ h. tt)
-    (λ h. returned-charges state number frame to
-    (call_of setting state which (map (value_of frame) arguments) decided))
+    (λ h. returned-charges state (made_by setting.code which (map (value_of frame) arguments)) number frame to
+    (call_of (shared_of state) number which (map (value_of frame) arguments) decided))
 visible_effect-charges setting state number thread frame decided (Ret value) =
     ends_with-charges state number thread frame _
 visible_effect-charges setting state number thread frame decided inst =
@@ -105,35 +111,33 @@ pub record Balances (before after : State) (left rest price : ℕ) : Type 0 wher
   pub grows : length before.output ≤ length after.output
   pub pays : length after.output + rest + price ≤ length before.output + left
 
-abbrev pub IsOver : TurnEnd → Type 0
-IsOver ends.Going = ⊥
-IsOver (ends.Exit status) = Unit {0}
-IsOver (ends.Trap trap site) = Unit {0}
-IsOver ends.Spent = Unit {0}
-
 abbrev pub MoveBalances : State → ℕ → Move State → Type 0
 MoveBalances before left (Leads after rest decided) = Balances before after left rest 1
 MoveBalances before left (Stops turned) =
-    IsOver turned.end × Balances before turned.after left turned.left (price_of turned.end)
+    Balances before turned.after left turned.left (price_of turned.end)
 
-spent-balances : (state : State) (left : ℕ) → IsOver ends.Spent × Balances state state left left 0
-spent-balances state left = (tt, record { grows = omega arith; pays = omega arith })
+spent-balances : (state : State) (left : ℕ) → Balances state state left left 0
+spent-balances state left = record { grows = omega arith; pays = omega arith }
 
 charged-balances : (before : State) (left : ℕ) (decided : List ℕ) (site : Site) (effect : Effect State) →
     Charges before effect → MoveBalances before left (charged before left decided site effect)
 unfolding charged
 charged-balances before left decided site (Done more after) charges =
     by_test (MoveBalances before left) (leb left more) _ _
-    (λ h. (tt, record { grows = omega arith; pays = omega arith }))
+    (λ h. record { grows = omega arith; pays = omega arith })
+    (λ h. let room : more < left = leb-false left more h in record { grows = charges.0; pays = omega arith })
+charged-balances before left decided site (Pauses more after) charges =
+    by_test (MoveBalances before left) (leb left more) _ _
+    (λ h. record { grows = omega arith; pays = omega arith })
     (λ h. let room : more < left = leb-false left more h in record { grows = charges.0; pays = omega arith })
 charged-balances before left decided site (Exits more status after) charges =
     by_test (MoveBalances before left) (leb left more) _ _
-    (λ h. (tt, record { grows = omega arith; pays = omega arith }))
-    (λ h. let room : more < left = leb-false left more h in (tt, record { grows = charges.0; pays = omega arith }))
+    (λ h. record { grows = omega arith; pays = omega arith })
+    (λ h. let room : more < left = leb-false left more h in record { grows = charges.0; pays = omega arith })
 charged-balances before left decided site (Traps trap) charges =
     by_test (MoveBalances before left) (eqb left 0) _ _
-    (λ h. (tt, record { grows = omega arith; pays = omega arith }))
-    (λ h. let some : left ≢ 0 = eqb-false left 0 h in (tt, record { grows = omega arith; pays = omega arith }))
+    (λ h. record { grows = omega arith; pays = omega arith })
+    (λ h. let some : left ≢ 0 = eqb-false left 0 h in record { grows = omega arith; pays = omega arith })
 charged-balances before left decided site Blocks charges = spent-balances before left
 charged-balances before left decided site NoRow charges = spent-balances before left
 
@@ -209,11 +213,11 @@ turn-balances setting state number left = by_thread (slice_get state.threads num
         Balances state turned.after left turned.left (price_of turned.end)
     by_move (Leads after rest decided) balances =
         went_on-balances setting number state after left rest decided (slice_get after.threads number) balances
-    by_move (Stops turned) balances = balances.1
+    by_move (Stops turned) balances = balances
 
     by_thread : (thread : Option Thread) → let turned = turn_of setting state number left thread in
         Balances state turned.after left turned.left (price_of turned.end)
-    by_thread None = (spent-balances state left).1
+    by_thread None = spent-balances state left
     by_thread (Some thread) =
         by_move (paid state left [] (first_step setting state number thread thread.pending))
         (paid-balances state left [] (first_step setting state number thread thread.pending)

@@ -10,7 +10,7 @@ use Rattle.machine_model.specs.declared.run.TurnEnd.TheVariants as ends
 use Rattle.machine_model.specs.declared.state.State.{State}
 use Rattle.machine_model.specs.declared.state.Thread.{Thread}
 use Rattle.machine_model.specs.Effect.{Effect, Footprint}
-use Rattle.machine_model.specs.Effect.Effect.{Done, Exits, Traps, Blocks, NoRow}
+use Rattle.machine_model.specs.Effect.Effect.{Done, Pauses, Exits, Traps, Blocks, NoRow}
 use Rattle.machine_model.specs.Enabled.{enabled}
 use Rattle.machine_model.specs.Moment.{Moment, moments_from, moments_of, moments_with, onward_or_none}
 use Rattle.machine_model.specs.Operation.{footprint_of, put_back}
@@ -24,17 +24,18 @@ use Rattle.machine_model.specs.Turn.{Turned, Move, charged, paid, ran, ran_on, r
 use Rattle.machine_model.specs.Turn.Move.{Leads, Stops}
 use Rattle.machine_model.proofs.Cases.{by_test}
 
-abbrev pub EffectKeeps : {S : Type 0} → (S → Type 0) → Effect S → Type 0
-EffectKeeps Within (Done more after) = Within after
-EffectKeeps Within (Exits more status after) = Within after
-EffectKeeps Within (Traps trap) = Unit {0}
-EffectKeeps Within Blocks = Unit {0}
-EffectKeeps Within NoRow = Unit {0}
-
 -- of what holds within a turn, and of what holds where its thread's next operation is pending
+abbrev pub EffectKeeps : {S : Type 0} → (S → Type 0) → (S → Type 0) → Effect S → Type 0
+EffectKeeps Within Between (Done more after) = Within after
+EffectKeeps Within Between (Pauses more after) = Between after
+EffectKeeps Within Between (Exits more status after) = Within after
+EffectKeeps Within Between (Traps trap) = Unit {0}
+EffectKeeps Within Between Blocks = Unit {0}
+EffectKeeps Within Between NoRow = Unit {0}
+
 abbrev pub StepKeeps : {S : Type 0} → (S → Type 0) → (S → Type 0) → Step S → Type 0
 StepKeeps Within Between (Waits after addresses) = Between after
-StepKeeps Within Between (Runs numbers site effect) = EffectKeeps Within effect
+StepKeeps Within Between (Runs numbers site effect) = EffectKeeps Within Between effect
 StepKeeps Within Between Starts = Unit {0}
 StepKeeps Within Between Lacks = Unit {0}
 
@@ -50,10 +51,12 @@ MoveKeeps Within Between (Leads after left decided) = Within after
 MoveKeeps Within Between (Stops turned) = AtEnd Within Between turned.end turned.after
 
 module _ {S : Type 0} (Within Between : S → Type 0) (before : S) (left : ℕ) (holds : Within before) where
-  charged-keeps : (decided : List ℕ) (site : Site) (effect : Effect S) → EffectKeeps Within effect →
+  charged-keeps : (decided : List ℕ) (site : Site) (effect : Effect S) → EffectKeeps Within Between effect →
       MoveKeeps Within Between (charged before left decided site effect)
   unfolding charged
   charged-keeps decided site (Done more after) keeps =
+      by_test (MoveKeeps Within Between) (leb left more) _ _ (λ h. holds) (λ h. keeps)
+  charged-keeps decided site (Pauses more after) keeps =
       by_test (MoveKeeps Within Between) (leb left more) _ _ (λ h. holds) (λ h. keeps)
   charged-keeps decided site (Exits more status after) keeps =
       by_test (MoveKeeps Within Between) (leb left more) _ _ (λ h. holds) (λ h. keeps)

@@ -10,7 +10,7 @@ use Rattle.machine_model.specs.declared.run.TurnEnd.TheVariants as ends
 use Rattle.machine_model.specs.declared.state.State.{State}
 use Rattle.machine_model.specs.declared.state.Thread.{Thread}
 use Rattle.machine_model.specs.Effect.{Effect, Footprint}
-use Rattle.machine_model.specs.Effect.Effect.{Done, Exits, Traps, Blocks, NoRow}
+use Rattle.machine_model.specs.Effect.Effect.{Done, Pauses, Exits, Traps, Blocks, NoRow}
 use Rattle.machine_model.specs.Operation.{footprint_of}
 use Rattle.machine_model.specs.Run.{Advance, Course, advanced, advanced_with, advanced_by, after_turn, begun, onward_or_told, run_from, run_of}
 use Rattle.machine_model.specs.Run.Advance.{Onward, Over}
@@ -50,6 +50,13 @@ charged-lasts {S} more before left decided site (Done extra after) =
     (λ h whole. absurd (whole refl))
     (λ h whole. let room : extra < left = leb-false left extra h in
     rw (lt-leb (left + more) extra (omega arith)) (ap (λ rest. Leads after rest decided) (omega arith)))
+charged-lasts {S} more before left decided site (Pauses extra after) =
+    by_test (λ (move : Move S). Lasts more move (charged before (left + more) decided site (Pauses extra after)))
+    (leb left extra) _ _
+    (λ h whole. absurd (whole refl))
+    (λ h whole. let room : extra < left = leb-false left extra h in
+    rw (lt-leb (left + more) extra (omega arith))
+    (ap (λ rest. Stops (record { after = after; left = rest; decided = decided; end = ends.Going })) (omega arith)))
 charged-lasts {S} more before left decided site (Exits extra status after) =
     by_test (λ (move : Move S). Lasts more move (charged before (left + more) decided site (Exits extra status after)))
     (leb left extra) _ _

@@ -2,6 +2,7 @@ pub mod Accounts
 pub mod Apart
 pub mod Budget
 pub mod Bytes
+pub mod CallStates
 pub mod Cases
 pub mod Changes
 pub mod Choices

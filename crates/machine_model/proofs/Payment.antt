@@ -3,7 +3,7 @@ use Rattle.std.proofs.Common.{◌≡◌, ◌≢◌, ℕ, zero, suc, ◌<◌, ◌
 use Rattle.std.proofs.lemmas.Bool.{leb-false, eqb-false}
 use Rattle.ir_types.specs.declared.instruction.Site.{Site}
 use Rattle.machine_model.specs.Effect.{Effect, Footprint}
-use Rattle.machine_model.specs.Effect.Effect.{Done, Exits, Traps, Blocks, NoRow}
+use Rattle.machine_model.specs.Effect.Effect.{Done, Pauses, Exits, Traps, Blocks, NoRow}
 use Rattle.machine_model.specs.Setting.{Setting}
 use Rattle.machine_model.specs.Step.{Step, next_step}
 use Rattle.machine_model.specs.Step.Step.{Waits, Runs, Starts, Lacks}
@@ -22,6 +22,8 @@ unfolding charged
 charged-pays before left decided site (Done more after) =
     by_test (Pays left) (leb left more) _ _ (λ h. omega arith)
     (λ h. let l : more < left = leb-false left more h in omega arith)
+charged-pays before left decided site (Pauses more after) =
+    by_test (Pays left) (leb left more) _ _ (λ h. omega arith) (λ h. omega arith)
 charged-pays before left decided site (Exits more status after) =
     by_test (Pays left) (leb left more) _ _ (λ h. omega arith) (λ h. omega arith)
 charged-pays before left decided site (Traps trap) =

@@ -19,6 +19,7 @@ use Rattle.machine_model.specs.Code.{Placed, next_in}
 use Rattle.machine_model.specs.Enabled.{enabled, is_enabled, may_run, waits, waits_at, waits_for, waits_in}
 use Rattle.machine_model.specs.Moment.{Moment, access_at}
 use Rattle.machine_model.specs.Setting.{Setting}
+use Rattle.machine_model.specs.Shared.{Shared, shared_of}
 use Rattle.machine_model.specs.Thread.{has_ended, top}
 use Rattle.machine_model.proofs.Choices.{Contains-later}
 use Rattle.machine_model.proofs.Waiting.{Keeps}
@@ -31,31 +32,31 @@ pub record Ready (setting : Setting) (threads : List Thread) (number : ℕ) (acc
   pub accesses : access_of (pending_operation setting.code thread thread.pending) ≡ Some access
 
 -- an access never has to wait
-inst-runs : (state : State) (site : Site) (decided : List ℕ) (inst : Inst) (access : Access) →
-    access_of (pending_inst site decided inst) ≡ Some access → waits_for state decided inst ≡ false
+inst-runs : (shared : Shared) (number : ℕ) (site : Site) (decided : List ℕ) (inst : Inst) (access : Access) →
+    access_of (pending_inst site decided inst) ≡ Some access → waits_for shared number decided inst ≡ false
 unfolding waits_for
-inst-runs state site decided (Load to kind at) access is = refl
-inst-runs state site decided (Store kind value at) access is = refl
-inst-runs state site decided inst access is = absurd (let h : ⊥ = cc in h)
+inst-runs shared number site decided (Load to kind at) access is = refl
+inst-runs shared number site decided (Store kind value at) access is = refl
+inst-runs shared number site decided inst access is = absurd (let h : ⊥ = cc in h)
 
-placed-runs : (state : State) (site : Site) (decided : List ℕ) (placed : Option Placed) (access : Access) →
-    access_of (pending_placed site decided placed) ≡ Some access → waits_at state decided placed ≡ false
-placed-runs state site decided None access is = refl
-placed-runs state site decided (Some placed) access is = inst-runs state site decided placed.inst access is
+placed-runs : (shared : Shared) (number : ℕ) (site : Site) (decided : List ℕ) (placed : Option Placed) (access : Access) →
+    access_of (pending_placed site decided placed) ≡ Some access → waits_at shared number decided placed ≡ false
+placed-runs shared number site decided None access is = refl
+placed-runs shared number site decided (Some placed) access is = inst-runs shared number site decided placed.inst access is
 
-frame-runs : (setting : Setting) (state : State) (site : Site) (decided : List ℕ) (frame : Option Frame) (access : Access) →
-    access_of (pending_in setting.code site decided frame) ≡ Some access → waits_in setting state decided frame ≡ false
-frame-runs setting state site decided None access is = refl
-frame-runs setting state site decided (Some frame) access is =
-    placed-runs state site decided (next_in setting.code frame) access is
+frame-runs : (setting : Setting) (shared : Shared) (number : ℕ) (site : Site) (decided : List ℕ) (frame : Option Frame) (access : Access) →
+    access_of (pending_in setting.code site decided frame) ≡ Some access → waits_in setting shared number decided frame ≡ false
+frame-runs setting shared number site decided None access is = refl
+frame-runs setting shared number site decided (Some frame) access is =
+    placed-runs shared number site decided (next_in setting.code frame) access is
 
-access-runs : (setting : Setting) (state : State) (thread : Thread) (operation : Operation) (access : Access) →
-    access_of (pending_operation setting.code thread operation) ≡ Some access → waits setting state thread operation ≡ false
+access-runs : (setting : Setting) (shared : Shared) (number : ℕ) (thread : Thread) (operation : Operation) (access : Access) →
+    access_of (pending_operation setting.code thread operation) ≡ Some access → waits setting shared number thread operation ≡ false
 unfolding waits pending_operation
-access-runs setting state thread Start access is = refl
-access-runs setting state thread (At site decided) access is = frame-runs setting state site decided (top thread) access is
-access-runs setting state thread (CondReturn site decided) access is = refl
-access-runs setting state thread Nothing access is = refl
+access-runs setting shared number thread Start access is = refl
+access-runs setting shared number thread (At site decided) access is = frame-runs setting shared number site decided (top thread) access is
+access-runs setting shared number thread (CondReturn site decided) access is = refl
+access-runs setting shared number thread Nothing access is = refl
 
 -- what a thread waits to do is what its frames say
 joined-alike : (setting : Setting) (thread : Thread) (joined : Bool) (operation : Operation) →
@@ -104,8 +105,8 @@ ready-enabled setting state number access ready =
     let count = length state.threads in
     let within = slice_get_within state.threads number ready.thread ready.is in
     let long = length-range_with_len 0 count in
-    let passes : may_run setting state (slice_get state.threads number) ≡ true =
-    rw (ready.is, ready.lasts, access-runs setting state ready.thread ready.thread.pending access ready.accesses) refl in
+    let passes : may_run setting (shared_of state) number (slice_get state.threads number) ≡ true =
+    rw (ready.is, ready.lasts, access-runs setting (shared_of state) number ready.thread ready.thread.pending access ready.accesses) refl in
     Contains-filtered (is_enabled setting state) (range_with_len 0 count) number
     (number, omega (arith, within, long), get_or-range_with_len 0 count number number within ∙ zero-add number) passes
 
@@ -115,13 +116,13 @@ not-ended false waits is = refl
 
 -- a thread that may run, with an access pending, is ready
 access-ready : (setting : Setting) (state : State) (number : ℕ) (access : Access) (thread : Option Thread) →
-    slice_get state.threads number ≡ thread → may_run setting state thread ≡ true →
+    slice_get state.threads number ≡ thread → may_run setting (shared_of state) number thread ≡ true →
     access_of (pending_of setting.code thread) ≡ Some access → Ready setting state.threads number access
 access-ready setting state number access None is runs accesses = absurd (let h : ⊥ = cc in h)
 access-ready setting state number access (Some thread) is runs accesses = record {
   thread = thread;
   is = is;
-  lasts = not-ended (has_ended thread) (waits setting state thread thread.pending) runs;
+  lasts = not-ended (has_ended thread) (waits setting (shared_of state) number thread thread.pending) runs;
   accesses = accesses;
 }
 
@@ -131,7 +132,7 @@ accesses-unless true found access is = absurd (let h : ⊥ = cc in h)
 accesses-unless false found access is = is
 
 may-run : (setting : Setting) (state : State) (number : ℕ) → Contains (enabled setting state) number →
-    may_run setting state (slice_get state.threads number) ≡ true
+    may_run setting (shared_of state) number (slice_get state.threads number) ≡ true
 unfolding enabled is_enabled
 may-run setting state number among =
     let threads = range_with_len 0 (length state.threads) in

@@ -1,23 +1,21 @@
--- The rows of the external calls that POSIX.1 threads and C's output functions give.
-use Rattle.std.specs.Prelude.{ℕ, ◌%◌, Bool, true, false, not, ◌&&◌, ◌==◌, nat_le, List, [], ◌∷◌, ◌++◌, length, slice_get, slice_index, slice_set, unwrap_or, Option, Some, None, Result, Ok, Err, if◌then◌else◌}
+-- The rows of the external calls that POSIX.1 threads and C's output functions give. A call sees what the threads share,
+-- the number of the thread that calls, its arguments and the numbers that it decided.
+use Rattle.std.specs.Prelude.{ℕ, ◌%◌, Bool, true, false, not, ◌&&◌, ◌==◌, nat_le, List, [], ◌∷◌, ◌++◌, length, slice_get, slice_index, slice_set, unwrap_or, Option, Some, None, is_some, Result, Ok, Err, if◌then◌else◌}
 use Rattle.ir_types.specs.declared.external.Extern.{Extern}
 use Rattle.ir_types.specs.declared.external.Extern.TheVariants.{Create, Join, ThreadExit, SelfNumber, MutexInit, MutexDestroy, Lock, TryLock, Unlock, CondInit, CondDestroy, CondWait, CondReturn, Signal, Broadcast, Yield, Usleep, Sleep, Malloc, Calloc, Free, Memcpy, Memmove, Memset, Strlen, LlvmMemcpy, LlvmMemmove, LlvmMemset, Putchar, Puts, Printf, Exit, Abort, AssertFail, Input}
 use Rattle.ir_types.specs.declared.external.ItemKind.TheVariants.{Byte}
 use Rattle.machine_model.specs.declared.state.Object.{Object}
 use Rattle.machine_model.specs.declared.state.OutItem.{OutItem}
-use Rattle.machine_model.specs.declared.state.State.{State}
-use Rattle.machine_model.specs.declared.state.Thread.{Thread}
 use Rattle.machine_model.specs.declared.trap.Trap.{Trap}
 use Rattle.machine_model.specs.declared.trap.Trap.TheVariants.{BadJoin}
 use Rattle.machine_model.specs.Effect.{Effect, done_or_traps}
 use Rattle.machine_model.specs.Effect.Effect.{Done, Traps, NoRow}
 use Rattle.machine_model.specs.Memory.{written}
-use Rattle.machine_model.specs.Setting.{Setting}
-use Rattle.machine_model.specs.Thread.{has_ended, made}
+use Rattle.machine_model.specs.Shared.{End, Shared, open_end}
 
--- the state after a call, but for the caller's frame and the output; the result, if it is used; what is printed
+-- what a call leaves of what is shared; its result, if it is used; what is printed
 pub record Returned : Type 0 where
-  pub state : State
+  pub shared : Shared
   pub result : Option ℕ
   pub items : List OutItem
 
@@ -30,136 +28,129 @@ abbrev pub again : ℕ
 again = 11
 
 -- the thread was made, and neither has ended nor was joined
-abbrev pub is_awaited : Option Thread → Bool
+abbrev pub is_awaited : Option End → Bool
 is_awaited None = false
-is_awaited (Some thread) = not (has_ended thread) && not thread.joined
+is_awaited (Some end) = not (is_some end.result) && not end.joined
 
--- the call has to wait
-unfoldable pub is_blocked : State → Extern → List ℕ → Bool
-is_blocked state (Create function) decided = false
-is_blocked state Join decided = is_awaited (slice_get state.threads (slice_index decided 0))
-is_blocked state ThreadExit decided = false
-is_blocked state SelfNumber decided = false
-is_blocked state MutexInit decided = false
-is_blocked state MutexDestroy decided = false
-is_blocked state Lock decided = false
-is_blocked state TryLock decided = false
-is_blocked state Unlock decided = false
-is_blocked state CondInit decided = false
-is_blocked state CondDestroy decided = false
-is_blocked state CondWait decided = false
-is_blocked state CondReturn decided = false
-is_blocked state Signal decided = false
-is_blocked state Broadcast decided = false
-is_blocked state Yield decided = false
-is_blocked state Usleep decided = false
-is_blocked state Sleep decided = false
-is_blocked state Malloc decided = false
-is_blocked state Calloc decided = false
-is_blocked state Free decided = false
-is_blocked state Memcpy decided = false
-is_blocked state Memmove decided = false
-is_blocked state Memset decided = false
-is_blocked state Strlen decided = false
-is_blocked state LlvmMemcpy decided = false
-is_blocked state LlvmMemmove decided = false
-is_blocked state LlvmMemset decided = false
-is_blocked state Putchar decided = false
-is_blocked state Puts decided = false
-is_blocked state (Printf pieces) decided = false
-is_blocked state Exit decided = false
-is_blocked state Abort decided = false
-is_blocked state AssertFail decided = false
-is_blocked state (Input slot width) decided = false
+-- the call of the thread of this number has to wait
+unfoldable pub is_blocked : Shared → ℕ → Extern → List ℕ → Bool
+is_blocked shared number (Create function) decided = false
+is_blocked shared number Join decided = is_awaited (slice_get shared.ends (slice_index decided 0))
+is_blocked shared number ThreadExit decided = false
+is_blocked shared number SelfNumber decided = false
+is_blocked shared number MutexInit decided = false
+is_blocked shared number MutexDestroy decided = false
+is_blocked shared number Lock decided = false
+is_blocked shared number TryLock decided = false
+is_blocked shared number Unlock decided = false
+is_blocked shared number CondInit decided = false
+is_blocked shared number CondDestroy decided = false
+is_blocked shared number CondWait decided = false
+is_blocked shared number CondReturn decided = false
+is_blocked shared number Signal decided = false
+is_blocked shared number Broadcast decided = false
+is_blocked shared number Yield decided = false
+is_blocked shared number Usleep decided = false
+is_blocked shared number Sleep decided = false
+is_blocked shared number Malloc decided = false
+is_blocked shared number Calloc decided = false
+is_blocked shared number Free decided = false
+is_blocked shared number Memcpy decided = false
+is_blocked shared number Memmove decided = false
+is_blocked shared number Memset decided = false
+is_blocked shared number Strlen decided = false
+is_blocked shared number LlvmMemcpy decided = false
+is_blocked shared number LlvmMemmove decided = false
+is_blocked shared number LlvmMemset decided = false
+is_blocked shared number Putchar decided = false
+is_blocked shared number Puts decided = false
+is_blocked shared number (Printf pieces) decided = false
+is_blocked shared number Exit decided = false
+is_blocked shared number Abort decided = false
+is_blocked shared number AssertFail decided = false
+is_blocked shared number (Input slot width) decided = false
 
-abbrev pub with_thread : State → Thread → List Object → State
-with_thread state thread objects =
-    record state { threads = state.threads ++ thread ∷ []; objects = objects }
-
--- makes a thread and stores its number; at the limit it stores nothing
-abbrev pub created : Setting → State → ℕ → ℕ → ℕ → Effect Returned
-created setting state function argument at =
-    if nat_le most_threads (length state.threads)
-    then Done 0 (record { state = state; result = Some again; items = [] })
+-- adds the end of a thread and stores its number; at the limit it stores nothing
+abbrev pub created : Shared → ℕ → Effect Returned
+created shared at =
+    if nat_le most_threads (length shared.ends)
+    then Done 0 (record { shared = shared; result = Some again; items = [] })
     else done_or_traps (λ objects. record {
-      state = with_thread state (made setting.code function (argument ∷ [])) objects;
+      shared = record shared { objects = objects; ends = shared.ends ++ open_end ∷ [] };
       result = Some 0;
       items = [];
-    }) (written state.objects at 8 (length state.threads))
+    }) (written shared.objects at 8 (length shared.ends))
 
-abbrev pub result_of : Option Thread → ℕ
+abbrev pub result_of : Option End → ℕ
 result_of None = 0
-result_of (Some thread) = unwrap_or thread.ended 0
+result_of (Some end) = unwrap_or end.result 0
 
 -- the objects after a thread's result was stored, where a place for it is given
-abbrev pub with_result : State → Option Thread → ℕ → Result (List Object) Trap
-with_result state thread at =
-    if at == 0 then Ok state.objects else written state.objects at 8 (result_of thread)
+abbrev pub with_result : List Object → Option End → ℕ → Result (List Object) Trap
+with_result objects end at = if at == 0 then Ok objects else written objects at 8 (result_of end)
 
-abbrev pub joined_at : State → ℕ → Option Thread → List Object → Effect Returned
-joined_at state number None objects = Traps BadJoin
-joined_at state number (Some thread) objects =
-    if thread.joined then Traps BadJoin
+abbrev pub joined_at : Shared → ℕ → Option End → List Object → Effect Returned
+joined_at shared thread None objects = Traps BadJoin
+joined_at shared thread (Some end) objects =
+    if end.joined then Traps BadJoin
     else Done 0 (record {
-      state = record state {
-        threads = slice_set state.threads number (record thread { joined = true });
+      shared = record shared {
         objects = objects;
+        ends = slice_set shared.ends thread (record end { joined = true });
       };
       result = Some 0;
       items = [];
     })
 
-abbrev pub joined_or_traps : State → ℕ → Option Thread → Result (List Object) Trap → Effect Returned
-joined_or_traps state number thread (Err trap) = Traps trap
-joined_or_traps state number thread (Ok objects) = joined_at state number thread objects
+abbrev pub joined_or_traps : Shared → ℕ → Option End → Result (List Object) Trap → Effect Returned
+joined_or_traps shared thread end (Err trap) = Traps trap
+joined_or_traps shared thread end (Ok objects) = joined_at shared thread end objects
 
 -- joins the thread, which is not awaited, and stores its result; a bad address comes before a bad join
-abbrev pub joined : State → ℕ → ℕ → Effect Returned
-joined state number at =
-    let thread = slice_get state.threads number in
-    joined_or_traps state number thread (with_result state thread at)
+abbrev pub joined : Shared → ℕ → ℕ → Effect Returned
+joined shared thread at =
+    let end = slice_get shared.ends thread in
+    joined_or_traps shared thread end (with_result shared.objects end at)
 
 -- prints one byte; its result is used nowhere
-abbrev pub printed : State → ℕ → Effect Returned
-printed state byte =
-    Done 0 (record { state = state; result = None; items = record { kind = Byte; bits = byte } ∷ [] })
+abbrev pub printed : Shared → ℕ → Effect Returned
+printed shared byte =
+    Done 0 (record { shared = shared; result = None; items = record { kind = Byte; bits = byte } ∷ [] })
 
--- what a call that is not blocked does, its numbers decided
-unfoldable pub call_of : Setting → State → Extern → List ℕ → List ℕ → Effect Returned
-call_of setting state (Create function) arguments decided =
-    created setting state function (slice_index arguments 2) (slice_index decided 0)
-call_of setting state Join arguments decided =
-    joined state (slice_index decided 0) (slice_index decided 1)
-call_of setting state Putchar arguments decided = printed state (slice_index arguments 0 % 256)
-call_of setting state ThreadExit arguments decided = NoRow
-call_of setting state SelfNumber arguments decided = NoRow
-call_of setting state MutexInit arguments decided = NoRow
-call_of setting state MutexDestroy arguments decided = NoRow
-call_of setting state Lock arguments decided = NoRow
-call_of setting state TryLock arguments decided = NoRow
-call_of setting state Unlock arguments decided = NoRow
-call_of setting state CondInit arguments decided = NoRow
-call_of setting state CondDestroy arguments decided = NoRow
-call_of setting state CondWait arguments decided = NoRow
-call_of setting state CondReturn arguments decided = NoRow
-call_of setting state Signal arguments decided = NoRow
-call_of setting state Broadcast arguments decided = NoRow
-call_of setting state Yield arguments decided = NoRow
-call_of setting state Usleep arguments decided = NoRow
-call_of setting state Sleep arguments decided = NoRow
-call_of setting state Malloc arguments decided = NoRow
-call_of setting state Calloc arguments decided = NoRow
-call_of setting state Free arguments decided = NoRow
-call_of setting state Memcpy arguments decided = NoRow
-call_of setting state Memmove arguments decided = NoRow
-call_of setting state Memset arguments decided = NoRow
-call_of setting state Strlen arguments decided = NoRow
-call_of setting state LlvmMemcpy arguments decided = NoRow
-call_of setting state LlvmMemmove arguments decided = NoRow
-call_of setting state LlvmMemset arguments decided = NoRow
-call_of setting state Puts arguments decided = NoRow
-call_of setting state (Printf pieces) arguments decided = NoRow
-call_of setting state Exit arguments decided = NoRow
-call_of setting state Abort arguments decided = NoRow
-call_of setting state AssertFail arguments decided = NoRow
-call_of setting state (Input slot width) arguments decided = NoRow
+-- what a call that is not blocked does, with these arguments and its numbers decided
+unfoldable pub call_of : Shared → ℕ → Extern → List ℕ → List ℕ → Effect Returned
+call_of shared number (Create function) arguments decided = created shared (slice_index decided 0)
+call_of shared number Join arguments decided = joined shared (slice_index decided 0) (slice_index decided 1)
+call_of shared number Putchar arguments decided = printed shared (slice_index arguments 0 % 256)
+call_of shared number ThreadExit arguments decided = NoRow
+call_of shared number SelfNumber arguments decided = NoRow
+call_of shared number MutexInit arguments decided = NoRow
+call_of shared number MutexDestroy arguments decided = NoRow
+call_of shared number Lock arguments decided = NoRow
+call_of shared number TryLock arguments decided = NoRow
+call_of shared number Unlock arguments decided = NoRow
+call_of shared number CondInit arguments decided = NoRow
+call_of shared number CondDestroy arguments decided = NoRow
+call_of shared number CondWait arguments decided = NoRow
+call_of shared number CondReturn arguments decided = NoRow
+call_of shared number Signal arguments decided = NoRow
+call_of shared number Broadcast arguments decided = NoRow
+call_of shared number Yield arguments decided = NoRow
+call_of shared number Usleep arguments decided = NoRow
+call_of shared number Sleep arguments decided = NoRow
+call_of shared number Malloc arguments decided = NoRow
+call_of shared number Calloc arguments decided = NoRow
+call_of shared number Free arguments decided = NoRow
+call_of shared number Memcpy arguments decided = NoRow
+call_of shared number Memmove arguments decided = NoRow
+call_of shared number Memset arguments decided = NoRow
+call_of shared number Strlen arguments decided = NoRow
+call_of shared number LlvmMemcpy arguments decided = NoRow
+call_of shared number LlvmMemmove arguments decided = NoRow
+call_of shared number LlvmMemset arguments decided = NoRow
+call_of shared number Puts arguments decided = NoRow
+call_of shared number (Printf pieces) arguments decided = NoRow
+call_of shared number Exit arguments decided = NoRow
+call_of shared number Abort arguments decided = NoRow
+call_of shared number AssertFail arguments decided = NoRow
+call_of shared number (Input slot width) arguments decided = NoRow

@@ -13,6 +13,8 @@ pub record Footprint : Type 0 where
 pub data Effect (S : Type 0) : Type 0 where
   -- it is done, and leaves this
   Done : ℕ → S → Effect S
+  -- it is done, and its return is the thread's next operation
+  Pauses : ℕ → S → Effect S
   -- it ends the process with a status, and leaves this
   Exits : ℕ → ℕ → S → Effect S
   -- it traps and changes nothing
@@ -24,6 +26,7 @@ pub data Effect (S : Type 0) : Type 0 where
 
 abbrev pub mapped : {S T : Type 0} → (S → T) → Effect S → Effect T
 mapped f (Done more after) = Done more (f after)
+mapped f (Pauses more after) = Pauses more (f after)
 mapped f (Exits more status after) = Exits more status (f after)
 mapped f (Traps trap) = Traps trap
 mapped f Blocks = Blocks

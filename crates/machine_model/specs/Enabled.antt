@@ -11,50 +11,52 @@ use Rattle.machine_model.specs.declared.state.Thread.{Thread}
 use Rattle.machine_model.specs.Call.{is_blocked}
 use Rattle.machine_model.specs.Code.{Placed, next_in}
 use Rattle.machine_model.specs.Setting.{Setting}
+use Rattle.machine_model.specs.Shared.{Shared, shared_of}
 use Rattle.machine_model.specs.Thread.{top, has_ended}
 
 -- only calls wait
-unfoldable pub waits_for : State → List ℕ → Inst → Bool
-waits_for state decided (Binary to op a b) = false
-waits_for state decided (Compare to op a b) = false
-waits_for state decided (Convert to op a width) = false
-waits_for state decided (Same to a) = false
-waits_for state decided (Select to c a b) = false
-waits_for state decided (Phi to edges) = false
-waits_for state decided (Alloca to unit count) = false
-waits_for state decided (Load to kind at) = false
-waits_for state decided (Store kind value at) = false
-waits_for state decided (Address to base fixed scaled) = false
-waits_for state decided (Branch block) = false
-waits_for state decided (BranchIf c one other) = false
-waits_for state decided (Switch value default cases) = false
-waits_for state decided (Ret value) = false
-waits_for state decided Unreachable = false
-waits_for state decided (Call to function arguments) = false
-waits_for state decided (External to which arguments) = is_blocked state which decided
+unfoldable pub waits_for : Shared → ℕ → List ℕ → Inst → Bool
+waits_for shared number decided (Binary to op a b) = false
+waits_for shared number decided (Compare to op a b) = false
+waits_for shared number decided (Convert to op a width) = false
+waits_for shared number decided (Same to a) = false
+waits_for shared number decided (Select to c a b) = false
+waits_for shared number decided (Phi to edges) = false
+waits_for shared number decided (Alloca to unit count) = false
+waits_for shared number decided (Load to kind at) = false
+waits_for shared number decided (Store kind value at) = false
+waits_for shared number decided (Address to base fixed scaled) = false
+waits_for shared number decided (Branch block) = false
+waits_for shared number decided (BranchIf c one other) = false
+waits_for shared number decided (Switch value default cases) = false
+waits_for shared number decided (Ret value) = false
+waits_for shared number decided Unreachable = false
+waits_for shared number decided (Call to function arguments) = false
+waits_for shared number decided (External to which arguments) = is_blocked shared number which decided
 
-abbrev pub waits_at : State → List ℕ → Option Placed → Bool
-waits_at state decided None = false
-waits_at state decided (Some placed) = waits_for state decided placed.inst
+abbrev pub waits_at : Shared → ℕ → List ℕ → Option Placed → Bool
+waits_at shared number decided None = false
+waits_at shared number decided (Some placed) = waits_for shared number decided placed.inst
 
-abbrev pub waits_in : Setting → State → List ℕ → Option Frame → Bool
-waits_in setting state decided None = false
-waits_in setting state decided (Some frame) = waits_at state decided (next_in setting.code frame)
+abbrev pub waits_in : Setting → Shared → ℕ → List ℕ → Option Frame → Bool
+waits_in setting shared number decided None = false
+waits_in setting shared number decided (Some frame) = waits_at shared number decided (next_in setting.code frame)
 
--- the operation has to wait
-unfoldable pub waits : Setting → State → Thread → Operation → Bool
-waits setting state thread Start = false
-waits setting state thread (At site decided) = waits_in setting state decided (top thread)
-waits setting state thread (CondReturn site decided) = false
-waits setting state thread Nothing = false
+-- the operation of the thread, which has this number, has to wait
+unfoldable pub waits : Setting → Shared → ℕ → Thread → Operation → Bool
+waits setting shared number thread Start = false
+waits setting shared number thread (At site decided) = waits_in setting shared number decided (top thread)
+waits setting shared number thread (CondReturn site decided) = false
+waits setting shared number thread Nothing = false
 
-abbrev pub may_run : Setting → State → Option Thread → Bool
-may_run setting state None = false
-may_run setting state (Some thread) = not (has_ended thread) && not (waits setting state thread thread.pending)
+abbrev pub may_run : Setting → Shared → ℕ → Option Thread → Bool
+may_run setting shared number None = false
+may_run setting shared number (Some thread) =
+    not (has_ended thread) && not (waits setting shared number thread thread.pending)
 
 -- the thread was made, has not ended, and its pending operation is not blocked
 unfoldable pub is_enabled : Setting → State → ℕ → Bool
-is_enabled setting state number = may_run setting state (slice_get state.threads number)
+is_enabled setting state number = may_run setting (shared_of state) number (slice_get state.threads number)
 
 -- the numbers of the threads that are enabled, rising
 unfoldable pub enabled : Setting → State → List ℕ

@@ -30,6 +30,7 @@ pub mod ReplayLaws
 pub mod Run
 pub mod Runnable
 pub mod Setting
+pub mod Shared
 pub mod Step
 pub mod TestedRun
 pub mod Thread

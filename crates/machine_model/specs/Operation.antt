@@ -1,5 +1,5 @@
 -- What the operation does with which a turn begins: the start of its thread, or a visible instruction.
-use Rattle.std.specs.Prelude.{ℕ, ◌+◌, ◌%◌, Bool, true, false, ◌&&◌, ◌==◌, List, [], ◌∷◌, ◌++◌, length, map, slice_get, slice_set, Option, Some, None, if◌then◌else◌}
+use Rattle.std.specs.Prelude.{ℕ, ◌+◌, ◌%◌, Bool, true, false, ◌&&◌, ◌==◌, nat_lt, List, [], ◌∷◌, ◌++◌, length, map, slice_get, slice_index, slice_set, Option, Some, None, if◌then◌else◌}
 use Rattle.std.specs.List.{list_any, list_all}
 use Rattle.ir_types.specs.declared.external.Extern.{Extern}
 use Rattle.ir_types.specs.declared.external.Extern.TheVariants.{Create, Join, ThreadExit, SelfNumber, MutexInit, MutexDestroy, Lock, TryLock, Unlock, CondInit, CondDestroy, CondWait, CondReturn, Signal, Broadcast, Yield, Usleep, Sleep, Malloc, Calloc, Free, Memcpy, Memmove, Memset, Strlen, LlvmMemcpy, LlvmMemmove, LlvmMemset, Putchar, Puts, Printf, Exit, Abort, AssertFail, Input}
@@ -8,18 +8,19 @@ use Rattle.ir_types.specs.declared.instruction.Inst.{Inst}
 use Rattle.ir_types.specs.declared.instruction.Inst.TheVariants.{Binary, Compare, Convert, Same, Select, Phi, Alloca, Load, Store, Address, Branch, BranchIf, Switch, Ret, Unreachable, Call, External}
 use Rattle.ir_types.specs.declared.instruction.Operand.{Operand}
 use Rattle.ir_types.specs.declared.instruction.Site.{Site}
+use Rattle.ir_types.specs.declared.«module».Module.{Module}
 use Rattle.machine_model.specs.declared.state.Frame.{Frame}
 use Rattle.machine_model.specs.declared.state.Operation.TheVariants.{Nothing}
-use Rattle.machine_model.specs.declared.state.OutItem.{OutItem}
 use Rattle.machine_model.specs.declared.state.State.{State}
 use Rattle.machine_model.specs.declared.state.Thread.{Thread}
 use Rattle.machine_model.specs.Call.{Returned, is_blocked, call_of}
 use Rattle.machine_model.specs.Effect.{Effect, Footprint, mapped}
-use Rattle.machine_model.specs.Effect.Effect.{Done, Exits, Traps, Blocks, NoRow}
+use Rattle.machine_model.specs.Effect.Effect.{Done, Pauses, Exits, Traps, Blocks, NoRow}
 use Rattle.machine_model.specs.Instruction.{effect_of}
 use Rattle.machine_model.specs.Memory.{without}
 use Rattle.machine_model.specs.Setting.{Setting}
-use Rattle.machine_model.specs.Thread.{with_top, has_ended, value_of, onward_after}
+use Rattle.machine_model.specs.Shared.{Shared, shared_of, with_shared}
+use Rattle.machine_model.specs.Thread.{made, with_top, has_ended, value_of, onward_after}
 
 -- the calls by which threads meet or wait, and those that print or end the process
 unfoldable pub is_visible_call : Extern → Bool
@@ -117,15 +118,63 @@ with_frame state number frame None = state
 with_frame state number frame (Some thread) =
     record state { threads = slice_set state.threads number (with_top thread frame) }
 
+-- the threads that a call creates, which wait to start
+unfoldable pub made_by : Module → Extern → List ℕ → List Thread
+made_by code (Create function) arguments = made code function (slice_index arguments 2 ∷ []) ∷ []
+made_by code Join arguments = []
+made_by code ThreadExit arguments = []
+made_by code SelfNumber arguments = []
+made_by code MutexInit arguments = []
+made_by code MutexDestroy arguments = []
+made_by code Lock arguments = []
+made_by code TryLock arguments = []
+made_by code Unlock arguments = []
+made_by code CondInit arguments = []
+made_by code CondDestroy arguments = []
+made_by code CondWait arguments = []
+made_by code CondReturn arguments = []
+made_by code Signal arguments = []
+made_by code Broadcast arguments = []
+made_by code Yield arguments = []
+made_by code Usleep arguments = []
+made_by code Sleep arguments = []
+made_by code Malloc arguments = []
+made_by code Calloc arguments = []
+made_by code Free arguments = []
+made_by code Memcpy arguments = []
+made_by code Memmove arguments = []
+made_by code Memset arguments = []
+made_by code Strlen arguments = []
+made_by code LlvmMemcpy arguments = []
+made_by code LlvmMemmove arguments = []
+made_by code LlvmMemset arguments = []
+made_by code Putchar arguments = []
+made_by code Puts arguments = []
+made_by code (Printf pieces) arguments = []
+made_by code Exit arguments = []
+made_by code Abort arguments = []
+made_by code AssertFail arguments = []
+made_by code (Input slot width) arguments = []
+
+-- the state after a call has changed what is shared: each thread has its end, and where the call added an end the
+-- thread is there that it created
+unfoldable pub changed_by : State → List Thread → Shared → State
+changed_by state others shared =
+    let after = with_shared state shared in
+    if nat_lt (length state.threads) (length shared.ends)
+    then record after { threads = after.threads ++ others } else after
+
 -- the caller goes on with the result, and what the call prints is added to the output
-abbrev pub returned : List OutItem → ℕ → Frame → Option ℕ → Returned → State
-returned output number frame to call =
-    let state = with_frame call.state number (onward_after frame to call.result) (slice_get call.state.threads number) in
-    record state { output = output ++ call.items }
+abbrev pub returned : State → List Thread → ℕ → Frame → Option ℕ → Returned → State
+returned before others number frame to call =
+    let state = changed_by before others call.shared in
+    let after = with_frame state number (onward_after frame to call.result) (slice_get state.threads number) in
+    record after { output = before.output ++ call.items }
 
 -- each item that is printed costs 1
 abbrev pub charged_for_items : (Returned → State) → Effect Returned → Effect State
 charged_for_items after (Done more call) = Done (length call.items + more) (after call)
+charged_for_items after (Pauses more call) = Pauses (length call.items + more) (after call)
 charged_for_items after (Exits more status call) = Exits (length call.items + more) status (after call)
 charged_for_items after (Traps trap) = Traps trap
 charged_for_items after Blocks = Blocks
@@ -178,6 +227,7 @@ visible_effect setting state number thread frame decided Unreachable =
 visible_effect setting state number thread frame decided (Call to function arguments) =
     on_footprint setting state number thread frame decided (Call to function arguments)
 visible_effect setting state number thread frame decided (External to which arguments) =
-    if is_blocked state which decided then Blocks
-    else charged_for_items (returned state.output number frame to)
-    (call_of setting state which (map (value_of frame) arguments) decided)
+    let values = map (value_of frame) arguments in
+    if is_blocked (shared_of state) number which decided then Blocks
+    else charged_for_items (returned state (made_by setting.code which values) number frame to)
+    (call_of (shared_of state) number which values decided)

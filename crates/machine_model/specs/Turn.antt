@@ -7,7 +7,7 @@ use Rattle.machine_model.specs.declared.run.TurnEnd.TheVariants as ends
 use Rattle.machine_model.specs.declared.state.State.{State}
 use Rattle.machine_model.specs.declared.state.Thread.{Thread}
 use Rattle.machine_model.specs.Effect.{Effect, Footprint}
-use Rattle.machine_model.specs.Effect.Effect.{Done, Exits, Traps, Blocks, NoRow}
+use Rattle.machine_model.specs.Effect.Effect.{Done, Pauses, Exits, Traps, Blocks, NoRow}
 use Rattle.machine_model.specs.Operation.{footprint_of, put_back}
 use Rattle.machine_model.specs.Setting.{Setting}
 use Rattle.machine_model.specs.Step.{Step, first_step, next_step}
@@ -33,6 +33,9 @@ stops after left decided end = Stops (record { after = after; left = left; decid
 unfoldable pub charged : {S : Type 0} → S → ℕ → List ℕ → Site → Effect S → Move S
 charged before left decided site (Done more after) =
     if nat_le left more then stops before left decided ends.Spent else Leads after (left - (more + 1)) decided
+charged before left decided site (Pauses more after) =
+    if nat_le left more then stops before left decided ends.Spent
+    else stops after (left - (more + 1)) decided ends.Going
 charged before left decided site (Exits more status after) =
     if nat_le left more then stops before left decided ends.Spent
     else stops after (left - (more + 1)) decided (ends.Exit status)

@@ -10,7 +10,7 @@ use Rattle.machine_model.specs.Instruction.{effect_of}
 use Rattle.machine_model.specs.Job.{HeldOn, hold_point}
 use Rattle.machine_model.specs.Memory.{read, written, bytes_of}
 use Rattle.machine_model.specs.Moment.{moments_from, moments_of}
-use Rattle.machine_model.specs.Operation.{is_visible, is_visible_call, visible_effect}
+use Rattle.machine_model.specs.Operation.{changed_by, is_visible, is_visible_call, made_by, visible_effect}
 use Rattle.machine_model.specs.Policy.{choose}
 use Rattle.machine_model.specs.Reach.{Reaches}
 use Rattle.machine_model.specs.Repeat.{power_within, repeats, same_policy, same_state}
@@ -21,7 +21,7 @@ use Rattle.machine_model.specs.Step.{first_step, next_step}
 use Rattle.machine_model.proofs.laws.worked_races.Goals as goal
 
 pub returns : goal.returns
-unfolding advanced turn ran next_step first_step paid charged rest_of_turn choose follow_turns enabled is_enabled waits waits_for is_visible is_visible_call visible_effect is_blocked call_of next_in addresses_of addresses_of_call outcomes_of effect_of read written bytes_of pending_operation held_from HeldOn hold_point moments_from moments_of Reaches power_within repeats same_policy same_state tested_from tested_run
+unfolding advanced turn ran next_step first_step paid charged rest_of_turn choose follow_turns enabled is_enabled waits waits_for is_visible is_visible_call visible_effect made_by changed_by is_blocked call_of next_in addresses_of addresses_of_call outcomes_of effect_of read written bytes_of pending_operation held_from HeldOn hold_point moments_from moments_of Reaches power_within repeats same_policy same_state tested_from tested_run
 returns c = record {
   recorded = λ input. refl;
   other = λ input. refl;
