@@ -3,8 +3,9 @@ use Rattle.std.proofs.Common.{◌≡◌, ℕ, ◌≤◌, List, arith}
 use Rattle.machine_model.specs.declared.run.TurnEnd.{TurnEnd}
 use Rattle.machine_model.specs.declared.state.State.{State}
 use Rattle.machine_model.specs.Setting.{Setting}
+use Rattle.machine_model.specs.SystemLaws.{price_of}
 use Rattle.machine_model.specs.Turn.{Turned, turn}
-use Rattle.machine_model.proofs.Accounts.{Balances, price_of, turn-balances}
+use Rattle.machine_model.proofs.Accounts.{Balances, turn-balances}
 use Rattle.concrete_machine.specs.Turns.{turned}
 
 balanced : (state : State) (left : ℕ) (there : Turned State) →

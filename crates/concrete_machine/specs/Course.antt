@@ -2,6 +2,7 @@
 use Rattle.std.specs.Prelude.{◌≡◌, ℕ, Option, Some, None, Result, Ok, Err}
 use Rattle.ir_types.specs.declared.«module».Module.{Module}
 use Rattle.machine_model.specs.declared.case.Case.{Case}
+use Rattle.machine_model.specs.declared.state.State.{State}
 use Rattle.machine_model.specs.Policy.{Choice}
 use Rattle.machine_model.specs.Run.{Advance, Course}
 use Rattle.machine_model.specs.Run.Advance.{Onward, Over}
@@ -11,7 +12,7 @@ use Rattle.concrete_machine.specs.declared.course.Advance.TheVariants as answers
 use Rattle.concrete_machine.specs.declared.course.Course.{Course as Kept}
 use Rattle.concrete_machine.specs.Machine.{Runs}
 
-abbrev pub course_of : Kept → Course
+abbrev pub course_of : Kept → Course State
 course_of kept = record {
   state = kept.machine.state;
   left = kept.left;
@@ -25,7 +26,7 @@ pub record IsOf (code : Module) (case : Case) (kept : Kept) : Type 0 where
   pub runs : Runs code kept.machine
   pub listed : kept.policy.listed ≡ case.turns
 
-abbrev pub advance_of : Answer → Advance
+abbrev pub advance_of : Answer → Advance State
 advance_of (answers.Onward kept) = Onward (course_of kept)
 advance_of (answers.Over kept outcome) = Over (course_of kept) outcome
 
@@ -40,11 +41,11 @@ left_in (answers.Onward kept) = kept.left
 left_in (answers.Over kept outcome) = kept.left
 
 -- a choice by which the chooser came to be as it is
-abbrev pub choice_of : ℕ → Course → Choice
+abbrev pub choice_of : ℕ → Course State → Choice
 choice_of thread course = record { thread = thread; next = course.policy }
 
 -- the thread that is chosen, and the chooser after it; where there is none nothing changes
-abbrev pub ChoosesTurn : Result (Option ℕ) NoMemory → Course → Course → Option Choice → Type 0
+abbrev pub ChoosesTurn : Result (Option ℕ) NoMemory → Course State → Course State → Option Choice → Type 0
 ChoosesTurn (Err refused) before after choice = Unit {0}
 ChoosesTurn (Ok None) before after choice = (choice ≡ None) × (after ≡ before)
 ChoosesTurn (Ok (Some thread)) before after choice =

@@ -8,6 +8,7 @@ ghost use Rattle.machine_model.specs.Primary.{setting_of};
 ghost use Rattle.machine_model.specs.Run.{advanced, advanced_with, begun, told};
 ghost use Rattle.machine_model.specs.Runnable.{IsRunnable};
 ghost use Rattle.machine_model.specs.Setting.{Setting};
+ghost use Rattle.machine_model.specs.System.{machine_of};
 ghost use Rattle.concrete_machine.specs.Course.{ChoosesTurn, GoesOn, IsOf, advance_of, choice_of, course_of, left_in};
 
 use crate::machine::Machine;
@@ -46,7 +47,7 @@ impl Course {
     ) -> Result<Course, NoMemory>
         requires { IsRunnable code.now }
         ensures course { IfOk result (λ course.
-            course_of course ≡ begun (setting_of code.now case.now input.now) case.now.steps) }
+            course_of course ≡ begun (machine_of (setting_of code.now case.now input.now)) case.now.steps) }
         ensures of { IfOk result (IsOf code.now case.now) }
     {
         Ok(Course {
@@ -86,7 +87,7 @@ impl Course {
     /// The access that a turn of a thread does, if it does one.
     pub fn access(&self, thread: u32) -> Option<Access>
         ensures { (setting : Setting) (case : Case) → IsOf setting.code case self.now →
-            result ≡ access_at setting (record { before = course_of self.now; thread = thread }) }
+            result ≡ access_at (machine_of setting) (record { before = course_of self.now; thread = thread }) }
     {
         if self.left == 0 {
             return None;
@@ -106,7 +107,8 @@ impl Course {
         requires of { IsOf code.now case.now self }
         requires few { thread < 16 }
         ensures course { IfOk result (λ next.
-            advanced_with (setting_of code.now case.now input.now) (course_of self) (Some (choice_of thread (course_of self)))
+            advanced_with (machine_of (setting_of code.now case.now input.now)) (course_of self)
+            (Some (choice_of thread (course_of self)))
             ≡ advance_of next) }
         ensures of { IfOk result (GoesOn code.now case.now) }
         ensures falls { IfOk result (λ next. left_in next ≤ self.left) }
@@ -144,7 +146,7 @@ impl Course {
     ) -> Result<Advance, NoMemory>
         requires { IsOf code.now case.now self }
         ensures course { IfOk result (λ next.
-            advanced (setting_of code.now case.now input.now) case.now.turns (course_of self) ≡ advance_of next) }
+            advanced (machine_of (setting_of code.now case.now input.now)) case.now.turns (course_of self) ≡ advance_of next) }
         ensures of { IfOk result (GoesOn code.now case.now) }
         ensures falls { IfOk result (λ next. left_in next ≤ self.left) }
     {
@@ -157,7 +159,7 @@ impl Course {
 
     /// What a run leaves that ended like this.
     pub fn tell(self, outcome: Outcome) -> Run
-        ensures { result ≡ told (course_of self) outcome }
+        ensures { (setting : Setting) → result ≡ told (machine_of setting) (course_of self) outcome }
     {
         self.machine.into_run(self.turns.into(), outcome)
     }

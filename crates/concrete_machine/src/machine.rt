@@ -4,11 +4,10 @@ ghost use Rattle.std.specs.Prelude.{◌≡◌, ◌+◌, ◌++◌, ◌<◌, ◌�
 ghost use Rattle.ir_types.specs.declared.«module».Module.{Module};
 ghost use Rattle.machine_model.specs.Access.{pending};
 ghost use Rattle.machine_model.specs.Enabled.{enabled, is_enabled};
-ghost use Rattle.machine_model.specs.Hold.{thread_has_ended};
-ghost use Rattle.machine_model.specs.Repeat.{same_state};
-ghost use Rattle.machine_model.specs.Run.{started};
 ghost use Rattle.machine_model.specs.Runnable.{IsRunnable};
 ghost use Rattle.machine_model.specs.Setting.{Setting};
+ghost use Rattle.machine_model.specs.Start.{started};
+ghost use Rattle.machine_model.specs.System.{same_state, thread_has_ended};
 ghost use Rattle.concrete_machine.specs.Machine.{Runs, machine_turn};
 
 use crate::call::MOST_THREADS;
@@ -115,7 +114,7 @@ impl Machine {
     }
 
     /// Whether the states of two machines are equal, but for their output.
-    #[tactic(auto, unfolding(machine_model::specs::Repeat::same_state))]
+    #[tactic(auto, unfolding(machine_model::specs::System::same_state))]
     pub fn same_state(&self, other: &Machine) -> bool
         ensures { result ≡ same_state self.now.state other.now.state }
     {

@@ -2,7 +2,7 @@
 
 ghost use Rattle.std.specs.Prelude.{◌≡◌, IfOk, length, map, slice_get};
 ghost use Rattle.machine_model.specs.Code.{registers_of};
-ghost use Rattle.machine_model.specs.Run.{kind_of, object_of_global, started};
+ghost use Rattle.machine_model.specs.Start.{kind_of, object_of_global, started};
 ghost use Rattle.machine_model.specs.Thread.{entered, made};
 
 use ir_types::{GlobalVar, List, Module};

@@ -24,6 +24,7 @@ use Rattle.machine_model.specs.Shared.{shared_of}
 use Rattle.machine_model.specs.Thread.{has_ended, value_of}
 use Rattle.machine_model.specs.Step.{Step, first_step, next_step}
 use Rattle.machine_model.specs.Step.Step.{Waits, Runs, Starts, Lacks}
+use Rattle.machine_model.specs.SystemLaws.{price_of}
 use Rattle.machine_model.specs.Turn.{Turned, Move, charged, paid, rest_of_turn, went_on, ran, ran_on, then_on, turn, turn_of}
 use Rattle.machine_model.specs.Turn.Move.{Leads, Stops}
 use Rattle.machine_model.proofs.Cases.{by_test}
@@ -98,13 +99,6 @@ visible_effect-charges setting state number thread frame decided (Ret value) =
     ends_with-charges state number thread frame _
 visible_effect-charges setting state number thread frame decided inst =
     mapped-charges state number (effect_of setting number (footprint_of state thread) frame decided inst)
-
--- what the end of a turn has paid for the turn itself
-abbrev pub price_of : TurnEnd → ℕ
-price_of ends.Going = 1
-price_of (ends.Exit status) = 0
-price_of (ends.Trap trap site) = 1
-price_of ends.Spent = 0
 
 -- the output only grows, and items and steps that are left pay for this much more
 pub record Balances (before after : State) (left rest price : ℕ) : Type 0 where

@@ -8,6 +8,7 @@ use Rattle.std.proofs.lemmas.Option.{slice_get-map}
 use Rattle.machine_model.specs.declared.state.Object.{Object}
 use Rattle.machine_model.specs.declared.state.State.{State}
 use Rattle.machine_model.specs.Memory.{dead, without}
+use Rattle.machine_model.specs.System.{machine_of}
 use Rattle.machine_model.specs.MemoryLaws.{AreApart, DeathKeepsApart, Extent, MomentsAreApart, OneHasRange, StoreKeepsApart, TurnKeepsApart, extent_of}
 use Rattle.machine_model.proofs.Changes.{turn-keeps}
 use Rattle.machine_model.proofs.Invariants.{moments-hold}
@@ -103,5 +104,5 @@ turn-keeps_apart setting state number left apart =
 
 pub moments-are_apart : MomentsAreApart
 moments-are_apart setting listed steps apart =
-    moments-hold setting (λ (state : State). AreApart state.objects)
+    moments-hold (machine_of setting) (λ (state : State). AreApart state.objects)
     (λ state number left apart going. turn-keeps_apart setting state number left apart) listed steps apart

@@ -10,7 +10,6 @@ use Rattle.machine_model.specs.declared.run.Outcome.{Outcome}
 use Rattle.machine_model.specs.declared.run.Outcome.TheVariants as outcomes
 use Rattle.machine_model.specs.declared.run.Reason.TheVariants.{Stuck, Repeats, Ended, Diverged}
 use Rattle.machine_model.specs.declared.access.Access.{Access}
-use Rattle.machine_model.specs.Enabled.{enabled}
 use Rattle.machine_model.specs.Hold.{Held, held_over}
 use Rattle.machine_model.specs.Hold.Held.{Done, NotEnforced, Ran}
 use Rattle.machine_model.specs.HoldLaws.{CameTo, DidRepeat, EndsHaveCauses, HasCause, HeldThreadWaits, HoldTurn, turns_of_hold}
@@ -20,19 +19,20 @@ use Rattle.machine_model.specs.PolicyLaws.{mode_after}
 use Rattle.machine_model.specs.Repeat.{Snapshot, earlier_turn, is_repeat, repeats, snapshot}
 use Rattle.machine_model.specs.Run.{Advance, Course, advanced, told}
 use Rattle.machine_model.specs.Run.Advance.{Onward, Over}
-use Rattle.machine_model.specs.Setting.{Setting}
+use Rattle.machine_model.specs.System.{System}
 use Rattle.machine_model.proofs.HoldCases.{IsTurn, LeadsTo, each-hold}
 use Rattle.machine_model.proofs.Policies.{choice-enabled, choice-is_last, choice-unless_none}
 
 -- a hold adds turns, none of which is the held thread's
-abbrev Adds : ℕ → List ℕ → Held → Type 0
+abbrev Adds : {S : Type 0} → ℕ → List ℕ → Held S → Type 0
 Adds held turns ending =
     (added : List ℕ) × (turns_of_hold ending ≡ turns ++ added) × All (λ thread. thread ≢ held) added
 
-adds-none : (held : ℕ) (turns : List ℕ) (ending : Held) → turns_of_hold ending ≡ turns → Adds held turns ending
+adds-none : {S : Type 0} (held : ℕ) (turns : List ℕ) (ending : Held S) → turns_of_hold ending ≡ turns →
+    Adds held turns ending
 adds-none held turns ending is = ([], is ∙ sym (append-nil turns), All-nil (λ thread. thread ≢ held))
 
-adds-more : (held thread : ℕ) (turns : List ℕ) (ending : Held) → thread ≢ held →
+adds-more : {S : Type 0} (held thread : ℕ) (turns : List ℕ) (ending : Held S) → thread ≢ held →
     Adds held (turns ++ thread ∷ []) ending → Adds held turns ending
 adds-more held thread turns ending other adds = (
   thread ∷ adds.0,
@@ -40,50 +40,54 @@ adds-more held thread turns ending other adds = (
   All-cons (λ one. one ≢ held) thread adds.0 other adds.2,
 )
 
-over-turns : (next : Course) (outcome : Outcome) → turns_of_hold (held_over next outcome) ≡ next.turns
-over-turns next (outcomes.Exit status) = refl
-over-turns next (outcomes.Trap trap thread site) = refl
-over-turns next outcomes.Deadlock = refl
-over-turns next (outcomes.Repeats turn earlier) = refl
-over-turns next outcomes.Spent = refl
+over-turns : {S : Type 0} (system : System S) (next : Course S) (outcome : Outcome) →
+    turns_of_hold (held_over system next outcome) ≡ next.turns
+over-turns system next (outcomes.Exit status) = refl
+over-turns system next (outcomes.Trap trap thread site) = refl
+over-turns system next outcomes.Deadlock = refl
+over-turns system next (outcomes.Repeats turn earlier) = refl
+over-turns system next outcomes.Spent = refl
 
 -- the turn that was chosen while a thread is held is another's, and the thread is still held
-pub other-thread : (setting : Setting) (listed : List ℕ) (held : ℕ) (course next : Course) (choice : Choice) →
-    IsTurn setting listed course choice next → course.policy.mode ≡ Hold held → choice.thread ≢ held
-other-thread setting listed held course next choice is mode =
-    rw mode at (choice-enabled listed course.policy (enabled setting course.state) choice is.chosen).1
+pub other-thread : {S : Type 0} (system : System S) (listed : List ℕ) (held : ℕ) (course next : Course S)
+    (choice : Choice) →
+    IsTurn system listed course choice next → course.policy.mode ≡ Hold held → choice.thread ≢ held
+other-thread system listed held course next choice is mode =
+    rw mode at (choice-enabled listed course.policy (system.enabled course.state) choice is.chosen).1
 
-pub still-held : (setting : Setting) (listed : List ℕ) (held : ℕ) (course next : Course) (choice : Choice) →
-    IsTurn setting listed course choice next → course.policy.mode ≡ Hold held → next.policy.mode ≡ Hold held
-still-held setting listed held course next choice is mode =
+pub still-held : {S : Type 0} (system : System S) (listed : List ℕ) (held : ℕ) (course next : Course S)
+    (choice : Choice) →
+    IsTurn system listed course choice next → course.policy.mode ≡ Hold held → next.policy.mode ≡ Hold held
+still-held system listed held course next choice is mode =
     ap (λ policy. policy.mode) is.policy
-    ∙ (choice-is_last listed course.policy (enabled setting course.state) choice is.chosen).1
+    ∙ (choice-is_last listed course.policy (system.enabled course.state) choice is.chosen).1
     ∙ ap mode_after mode
 
-last-turn : (setting : Setting) (listed : List ℕ) (held : ℕ) (course next : Course) (choice : Choice) (ending : Held) →
-    IsTurn setting listed course choice next → turns_of_hold ending ≡ next.turns → course.policy.mode ≡ Hold held →
+last-turn : {S : Type 0} (system : System S) (listed : List ℕ) (held : ℕ) (course next : Course S)
+    (choice : Choice) (ending : Held S) →
+    IsTurn system listed course choice next → turns_of_hold ending ≡ next.turns → course.policy.mode ≡ Hold held →
     Adds held course.turns ending
-last-turn setting listed held course next choice ending is turns mode =
-    adds-more held choice.thread course.turns ending (other-thread setting listed held course next choice is mode)
+last-turn system listed held course next choice ending is turns mode =
+    adds-more held choice.thread course.turns ending (other-thread system listed held course next choice is mode)
     (adds-none held (course.turns ++ choice.thread ∷ []) ending (turns ∙ is.turns))
 
-pub held-waits : HeldThreadWaits
-held-waits most setting listed race first past course =
-    each-hold setting listed race first
-    (λ most past course ending. course.policy.mode ≡ Hold race.t1 → Adds race.t1 course.turns ending)
+pub held-waits : {S : Type 0} (system : System S) → HeldThreadWaits system
+held-waits {S} system most listed race first past course =
+    each-hold system listed race first
+    (λ (most : ℕ) (past : List (Snapshot S)) (course : Course S) (ending : Held S). course.policy.mode ≡ Hold race.t1 → Adds race.t1 course.turns ending)
     (record {
-      spent = λ past course mode. adds-none race.t1 course.turns (Ran (told course outcomes.Spent)) refl;
-      diverged = λ most past course ended mode. adds-none race.t1 course.turns (NotEnforced Diverged course) refl;
-      stuck = λ most past course none mode. adds-none race.t1 course.turns (NotEnforced Stuck course) refl;
+      spent = λ past course mode. adds-none {S = S} race.t1 course.turns (Ran (told system course outcomes.Spent)) refl;
+      diverged = λ most past course ended mode. adds-none {S = S} race.t1 course.turns (NotEnforced Diverged course) refl;
+      stuck = λ most past course none mode. adds-none {S = S} race.t1 course.turns (NotEnforced Stuck course) refl;
       over = λ most past course next choice outcome is leads.
-          last-turn setting listed race.t1 course next choice (held_over next outcome) is (over-turns next outcome);
+          last-turn system listed race.t1 course next choice (held_over system next outcome) is (over-turns system next outcome);
       done = λ most past course next choice is leads does.
-          last-turn setting listed race.t1 course next choice (Done (past ++ snapshot next ∷ []) next) is refl;
+          last-turn system listed race.t1 course next choice (Done (past ++ snapshot next ∷ []) next) is refl;
       repeated = λ most past course next choice is leads again.
-          last-turn setting listed race.t1 course next choice (NotEnforced Repeats next) is refl;
+          last-turn system listed race.t1 course next choice (NotEnforced Repeats next) is refl;
       onward = λ most past course next choice ending is leads rest mode.
-          adds-more race.t1 choice.thread course.turns ending (other-thread setting listed race.t1 course next choice is mode)
-          (rw is.turns at rest (still-held setting listed race.t1 course next choice is mode));
+          adds-more race.t1 choice.thread course.turns ending (other-thread system listed race.t1 course next choice is mode)
+          (rw is.turns at rest (still-held system listed race.t1 course next choice is mode));
     }) most past course
 
 -- a number that is not another than the held one is that one
@@ -101,45 +105,48 @@ All-implied P Q implies (thread ∷ threads) all =
     (All-implied P Q implies threads (All-tail P thread threads all))
 
 -- where none may be chosen, each enabled thread is the held one
-all-held : (setting : Setting) (listed : List ℕ) (held : ℕ) (course : Course) →
-    choose listed course.policy (enabled setting course.state) ≡ None → course.policy.mode ≡ Hold held →
-    All (λ thread. thread ≡ held) (enabled setting course.state)
-all-held setting listed held course none mode =
-    let threads = enabled setting course.state in
+all-held : {S : Type 0} (system : System S) (listed : List ℕ) (held : ℕ) (course : Course S) →
+    choose listed course.policy (system.enabled course.state) ≡ None → course.policy.mode ≡ Hold held →
+    All (λ thread. thread ≡ held) (system.enabled course.state)
+all-held system listed held course none mode =
+    let threads = system.enabled course.state in
     All-implied (Contains threads) (λ thread. thread ≡ held)
     (λ thread among. not-other thread held
     (rw mode at (choice-unless_none listed course.policy threads thread none among)))
     threads (All-contains_itself threads)
 
-advances : (setting : Setting) (listed : List ℕ) (course next : Course) (choice : Choice) (advance : Advance) →
-    IsTurn setting listed course choice next → LeadsTo setting course choice advance → advanced setting listed course ≡ advance
+advances : {S : Type 0} (system : System S) (listed : List ℕ) (course next : Course S) (choice : Choice)
+    (advance : Advance S) →
+    IsTurn system listed course choice next → LeadsTo system course choice advance → advanced system listed course ≡ advance
 unfolding advanced
-advances setting listed course next choice advance is leads = rw is.chosen leads
+advances system listed course next choice advance is leads = rw is.chosen leads
 
-abbrev came-at_once : (setting : Setting) (listed : List ℕ) (past : List Snapshot) (course : Course) →
-    CameTo setting listed past course course
-came-at_once setting listed past course = record { snapshots = past; comes = Here }
+abbrev came-at_once : {S : Type 0} (system : System S) (listed : List ℕ) (past : List (Snapshot S))
+    (course : Course S) →
+    CameTo system listed past course course
+came-at_once system listed past course = record { snapshots = past; comes = Here }
 
 -- the first turn of a hold, and what the hold after it gives
-module _ (setting : Setting) (listed : List ℕ) (past : List Snapshot) (course next : Course) (choice : Choice) (is : IsTurn setting listed course choice next) where
-  abbrev later-came : (after : Course) → LeadsTo setting course choice (Onward next) →
-      CameTo setting listed (past ++ snapshot next ∷ []) next after → CameTo setting listed past course after
+module _ {S : Type 0} (system : System S) (listed : List ℕ) (past : List (Snapshot S)) (course next : Course S) (choice : Choice) (is : IsTurn system listed course choice next) where
+  abbrev later-came : (after : Course S) → LeadsTo system course choice (Onward next) →
+      CameTo system listed (past ++ snapshot next ∷ []) next after → CameTo system listed past course after
   later-came after leads came = record {
     snapshots = came.snapshots;
-    comes = Later past course next (advances setting listed course next choice (Onward next) is leads) came.comes;
+    comes = Later past course next (advances system listed course next choice (Onward next) is leads) came.comes;
   }
 
-  abbrev first-turn : (advance : Advance) → LeadsTo setting course choice advance → HoldTurn setting listed past course advance
+  abbrev first-turn : (advance : Advance S) → LeadsTo system course choice advance →
+      HoldTurn system listed past course advance
   first-turn advance leads = record {
     before = course;
-    came = came-at_once setting listed past course;
+    came = came-at_once system listed past course;
     choice = choice;
     chosen = is.chosen;
     leads = leads;
   }
 
-  abbrev later-turn : (advance : Advance) → LeadsTo setting course choice (Onward next) →
-      HoldTurn setting listed (past ++ snapshot next ∷ []) next advance → HoldTurn setting listed past course advance
+  abbrev later-turn : (advance : Advance S) → LeadsTo system course choice (Onward next) →
+      HoldTurn system listed (past ++ snapshot next ∷ []) next advance → HoldTurn system listed past course advance
   later-turn advance leads turn = record {
     before = turn.before;
     came = later-came turn.before leads turn.came;
@@ -148,14 +155,15 @@ module _ (setting : Setting) (listed : List ℕ) (past : List Snapshot) (course 
     leads = turn.leads;
   }
 
-  repeated-cause : LeadsTo setting course choice (Onward next) → repeats past (snapshot next) ≡ true →
-      DidRepeat setting listed past course next
+  repeated-cause : LeadsTo system course choice (Onward next) → repeats system past (snapshot next) ≡ true →
+      DidRepeat system listed past course next
   unfolding repeats
   repeated-cause leads again = go (ltb 1 (length past)) (slice_get past (earlier_turn (length past))) refl refl again
     where
-      go : (long : Bool) (found : Option Snapshot) → ltb 1 (length past) ≡ long →
-          slice_get past (earlier_turn (length past)) ≡ found → (long && is_repeat (snapshot next) found) ≡ true →
-          DidRepeat setting listed past course next
+      go : (long : Bool) (found : Option (Snapshot S)) → ltb 1 (length past) ≡ long →
+          slice_get past (earlier_turn (length past)) ≡ found →
+          (long && is_repeat system (snapshot next) found) ≡ true →
+          DidRepeat system listed past course next
       go false found short is again = absurd (let h : ⊥ = cc in h)
       go true None long is again = absurd (let h : ⊥ = cc in h)
       go true (Some earlier) long is again = record {
@@ -166,24 +174,24 @@ module _ (setting : Setting) (listed : List ℕ) (past : List Snapshot) (course 
         same = again;
       }
 
-  over-cause : (race : Race) (first : Access) (outcome : Outcome) → LeadsTo setting course choice (Over next outcome) →
-      HasCause setting listed race first past course (held_over next outcome)
+  over-cause : (race : Race) (first : Access) (outcome : Outcome) → LeadsTo system course choice (Over next outcome) →
+      HasCause system listed race first past course (held_over system next outcome)
   over-cause race first (outcomes.Exit status) leads = (status, first-turn (Over next (outcomes.Exit status)) leads)
   over-cause race first (outcomes.Trap trap thread site) leads = tt
   over-cause race first outcomes.Deadlock leads = tt
   over-cause race first (outcomes.Repeats turn earlier) leads = tt
   over-cause race first outcomes.Spent leads = tt
 
-  onward-cause : (race : Race) (first : Access) (ending : Held) → LeadsTo setting course choice (Onward next) →
-      HasCause setting listed race first (past ++ snapshot next ∷ []) next ending →
-      HasCause setting listed race first past course ending
+  onward-cause : (race : Race) (first : Access) (ending : Held S) → LeadsTo system course choice (Onward next) →
+      HasCause system listed race first (past ++ snapshot next ∷ []) next ending →
+      HasCause system listed race first past course ending
   onward-cause race first (Done snapshots after) leads cause = record {
     last = later-turn (Onward after) leads cause.last;
     does = cause.does;
     noted = cause.noted;
   }
   onward-cause race first (NotEnforced Stuck after) leads cause =
-      (later-came after leads cause.0, λ mode. cause.1 (still-held setting listed race.t1 course next choice is mode))
+      (later-came after leads cause.0, λ mode. cause.1 (still-held system listed race.t1 course next choice is mode))
   onward-cause race first (NotEnforced Diverged after) leads cause = (later-came after leads cause.0, cause.1)
   onward-cause race first (NotEnforced Repeats after) leads cause = record {
     last = later-turn (Onward after) leads cause.last;
@@ -196,23 +204,23 @@ module _ (setting : Setting) (listed : List ℕ) (past : List Snapshot) (course 
       (cause.0, later-turn (Over after (outcomes.Exit cause.0)) leads cause.1)
   onward-cause race first (Ran run) leads cause = tt
 
-pub ends-have_causes : EndsHaveCauses
-ends-have_causes most setting listed race first past course =
-    each-hold setting listed race first (λ most past course ending. HasCause setting listed race first past course ending)
+pub ends-have_causes : {S : Type 0} (system : System S) → EndsHaveCauses system
+ends-have_causes system most listed race first past course =
+    each-hold system listed race first (λ most past course ending. HasCause system listed race first past course ending)
     (record {
       spent = λ past course. tt;
-      diverged = λ most past course ended. (came-at_once setting listed past course, ended);
+      diverged = λ most past course ended. (came-at_once system listed past course, ended);
       stuck = λ most past course none.
-          (came-at_once setting listed past course, all-held setting listed race.t1 course none);
+          (came-at_once system listed past course, all-held system listed race.t1 course none);
       over = λ most past course next choice outcome is leads.
-          over-cause setting listed past course next choice is race first outcome leads;
+          over-cause system listed past course next choice is race first outcome leads;
       done = λ most past course next choice is leads does. record {
-        last = first-turn setting listed past course next choice is (Onward next) leads;
+        last = first-turn system listed past course next choice is (Onward next) leads;
         does = does;
         noted = refl;
       };
       repeated = λ most past course next choice is leads again.
-          repeated-cause setting listed past course next choice is leads again;
+          repeated-cause system listed past course next choice is leads again;
       onward = λ most past course next choice ending is leads rest.
-          onward-cause setting listed past course next choice is race first ending leads rest;
+          onward-cause system listed past course next choice is race first ending leads rest;
     }) most past course

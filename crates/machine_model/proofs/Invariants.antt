@@ -15,7 +15,8 @@ use Rattle.machine_model.specs.Enabled.{enabled}
 use Rattle.machine_model.specs.Moment.{Moment, moments_from, moments_of, moments_with, onward_or_none}
 use Rattle.machine_model.specs.Operation.{footprint_of, put_back}
 use Rattle.machine_model.specs.Policy.{Choice, choose}
-use Rattle.machine_model.specs.Run.{Course, advanced_by, after_turn, begun, started}
+use Rattle.machine_model.specs.Run.{Course, advanced_by, after_turn, begun}
+use Rattle.machine_model.specs.System.{System}
 use Rattle.machine_model.specs.Setting.{Setting}
 use Rattle.machine_model.specs.Step.{Step, first_step, next_step}
 use Rattle.machine_model.specs.Step.Step.{Waits, Runs, Starts, Lacks}
@@ -163,40 +164,40 @@ at_each_end Holds (ends.Trap trap site) after holds = holds
 at_each_end Holds ends.Spent after holds = holds
 
 -- what turns keep that go on, each moment of a run has
-module _ (setting : Setting) (Holds : State → Type 0)
-    (keeps : (state : State) (number left : ℕ) → Holds state →
-    let turned = turn setting state number left in turned.end ≡ ends.Going → Holds turned.after) where
-  abbrev HasMoments : List Moment → Type 0
-  HasMoments moments = All (λ (moment : Moment). Holds moment.before.state) moments
+module _ {S : Type 0} (system : System S) (Holds : S → Type 0)
+    (keeps : (state : S) (thread left : ℕ) → Holds state →
+    let turned = system.turn state thread left in turned.end ≡ ends.Going → Holds turned.after) where
+  abbrev HasMoments : List (Moment S) → Type 0
+  HasMoments moments = All (λ (moment : Moment S). Holds moment.before.state) moments
 
   none : HasMoments []
-  none = All-nil (λ (moment : Moment). Holds moment.before.state)
+  none = All-nil (λ (moment : Moment S). Holds moment.before.state)
 
-  onward-hold : (go : Course → List Moment) → ((course : Course) → Holds course.state → HasMoments (go course)) →
-      (thread : ℕ) (after : Course) (end : TurnEnd) → (end ≡ ends.Going → Holds after.state) →
+  onward-hold : (go : Course S → List (Moment S)) → ((course : Course S) → Holds course.state → HasMoments (go course)) →
+      (thread : ℕ) (after : Course S) (end : TurnEnd) → (end ≡ ends.Going → Holds after.state) →
       HasMoments (onward_or_none go (advanced_by thread after end))
   onward-hold go goes thread after ends.Going holds = goes after (holds refl)
   onward-hold go goes thread after (ends.Exit status) holds = none
   onward-hold go goes thread after (ends.Trap trap site) holds = none
   onward-hold go goes thread after ends.Spent holds = none
 
-  moments_with-hold : (go : Course → List Moment) → ((course : Course) → Holds course.state → HasMoments (go course)) →
-      (course : Course) (choice : Option Choice) → Holds course.state → HasMoments (moments_with go setting course choice)
+  moments_with-hold : (go : Course S → List (Moment S)) → ((course : Course S) → Holds course.state → HasMoments (go course)) →
+      (course : Course S) (choice : Option Choice) → Holds course.state → HasMoments (moments_with go system course choice)
   moments_with-hold go goes course None holds = none
   moments_with-hold go goes course (Some choice) holds =
-      let turned = turn setting course.state choice.thread course.left in
-      All-cons (λ (moment : Moment). Holds moment.before.state) _ _ holds
+      let turned = system.turn course.state choice.thread course.left in
+      All-cons (λ (moment : Moment S). Holds moment.before.state) _ _ holds
       (onward-hold go goes choice.thread (after_turn course choice turned) turned.end
       (keeps course.state choice.thread course.left holds))
 
-  moments_from-hold : (most : ℕ) (listed : List ℕ) (course : Course) → Holds course.state →
-      HasMoments (moments_from most setting listed course)
+  moments_from-hold : (most : ℕ) (listed : List ℕ) (course : Course S) → Holds course.state →
+      HasMoments (moments_from most system listed course)
   unfolding moments_from
   moments_from-hold zero listed course holds = none
   moments_from-hold (suc most) listed course holds =
-      moments_with-hold (moments_from most setting listed) (moments_from-hold most listed) course
-      (choose listed course.policy (enabled setting course.state)) holds
+      moments_with-hold (moments_from most system listed) (moments_from-hold most listed) course
+      (choose listed course.policy (system.enabled course.state)) holds
 
-  pub moments-hold : (listed : List ℕ) (steps : ℕ) → Holds (started setting.code) → HasMoments (moments_of setting listed steps)
+  pub moments-hold : (listed : List ℕ) (steps : ℕ) → Holds system.start → HasMoments (moments_of system listed steps)
   unfolding moments_of
-  moments-hold listed steps holds = moments_from-hold (steps + 1) listed (begun setting steps) holds
+  moments-hold listed steps holds = moments_from-hold (steps + 1) listed (begun system steps) holds

@@ -15,18 +15,15 @@ use Rattle.machine_model.specs.Operation.{footprint_of}
 use Rattle.machine_model.specs.Run.{Advance, Course, advanced, advanced_with, advanced_by, after_turn, begun, onward_or_told, run_from, run_of}
 use Rattle.machine_model.specs.Run.Advance.{Onward, Over}
 use Rattle.machine_model.specs.Policy.{Choice, choose}
-use Rattle.machine_model.specs.Enabled.{enabled}
 use Rattle.machine_model.specs.Setting.{Setting}
+use Rattle.machine_model.specs.System.{System}
+use Rattle.machine_model.specs.SystemLaws.{IsSystem, richer}
 use Rattle.machine_model.specs.Thread.{has_ended}
 use Rattle.machine_model.specs.Step.{Step, first_step, next_step}
 use Rattle.machine_model.specs.Step.Step.{Waits, Runs, Starts, Lacks}
 use Rattle.machine_model.specs.Turn.{Turned, Move, charged, paid, rest_of_turn, went_on, put_in, ran, ran_on, then_on, turn, turn_of}
 use Rattle.machine_model.specs.Turn.Move.{Leads, Stops}
 use Rattle.machine_model.proofs.Cases.{by_test}
-
--- with so many more steps left
-abbrev pub richer : {S : Type 0} → ℕ → Turned S → Turned S
-richer more turned = record turned { left = turned.left + more }
 
 abbrev pub richer_move : {S : Type 0} → ℕ → Move S → Move S
 richer_move more (Leads after left decided) = Leads after (left + more) decided
@@ -150,33 +147,33 @@ turn_of-lasts setting state number more left (Some thread) whole =
     (rest_of_turn-lasts setting number more) whole
 
 -- a turn that was not cut is the same with more steps
-turn-lasts : (setting : Setting) (state : State) (number more left : ℕ) →
+pub turn-lasts : (setting : Setting) (state : State) (number more left : ℕ) →
     (turn setting state number left).end ≢ ends.Spent →
     turn setting state number (left + more) ≡ richer more (turn setting state number left)
 unfolding turn
 turn-lasts setting state number more left =
     turn_of-lasts setting state number more left (slice_get state.threads number)
 
-abbrev richer_course : ℕ → Course → Course
+abbrev richer_course : {S : Type 0} → ℕ → Course S → Course S
 richer_course more course = record course { left = course.left + more }
 
 -- the turn of a run that goes on, or ends otherwise than spent, was not cut
-abbrev pub AdvanceIsWhole : Advance → Type 0
+abbrev pub AdvanceIsWhole : {S : Type 0} → Advance S → Type 0
 AdvanceIsWhole (Onward next) = Unit {0}
 AdvanceIsWhole (Over last outcome) = outcome ≢ outcomes.Spent
 
-advanced_by-whole : (thread : ℕ) (course : Course) (end : TurnEnd) →
+advanced_by-whole : {S : Type 0} (thread : ℕ) (course : Course S) (end : TurnEnd) →
     AdvanceIsWhole (advanced_by thread course end) → end ≢ ends.Spent
 advanced_by-whole thread course ends.Going whole = λ is. cc
 advanced_by-whole thread course (ends.Exit status) whole = λ is. cc
 advanced_by-whole thread course (ends.Trap trap site) whole = λ is. cc
 advanced_by-whole thread course ends.Spent whole = λ is. whole refl
 
-abbrev richer_advance : ℕ → Advance → Advance
+abbrev richer_advance : {S : Type 0} → ℕ → Advance S → Advance S
 richer_advance more (Onward next) = Onward (richer_course more next)
 richer_advance more (Over last outcome) = Over (richer_course more last) outcome
 
-advanced_by-richer : (more : ℕ) (course : Course) (choice : Choice) (turned : Turned State) →
+advanced_by-richer : {S : Type 0} (more : ℕ) (course : Course S) (choice : Choice) (turned : Turned S) →
     advanced_by choice.thread (after_turn (richer_course more course) choice (richer more turned)) turned.end
     ≡ richer_advance more (advanced_by choice.thread (after_turn course choice turned) turned.end)
 advanced_by-richer more course choice turned = go turned.end
@@ -189,53 +186,57 @@ advanced_by-richer more course choice turned = go turned.end
     go (ends.Trap trap site) = refl
     go ends.Spent = refl
 
-advanced_with-lasts : (setting : Setting) (more : ℕ) (course : Course) (choice : Option Choice) →
-    AdvanceIsWhole (advanced_with setting course choice) →
-    advanced_with setting (richer_course more course) choice ≡ richer_advance more (advanced_with setting course choice)
-advanced_with-lasts setting more course None whole = refl
-advanced_with-lasts setting more course (Some choice) whole =
-    let lasts = turn-lasts setting course.state choice.thread more course.left
+advanced_with-lasts : {S : Type 0} (system : System S) (facts : IsSystem system) (more : ℕ) (course : Course S)
+    (choice : Option Choice) →
+    AdvanceIsWhole (advanced_with system course choice) →
+    advanced_with system (richer_course more course) choice ≡ richer_advance more (advanced_with system course choice)
+advanced_with-lasts system facts more course None whole = refl
+advanced_with-lasts system facts more course (Some choice) whole =
+    let lasts = facts.lasts course.state choice.thread more course.left
     (advanced_by-whole choice.thread _ _ whole) in
-    rw lasts (advanced_by-richer more course choice (turn setting course.state choice.thread course.left))
+    rw lasts (advanced_by-richer more course choice (system.turn course.state choice.thread course.left))
 
-advanced-lasts : (setting : Setting) (listed : List ℕ) (more : ℕ) (course : Course) →
-    AdvanceIsWhole (advanced setting listed course) →
-    advanced setting listed (richer_course more course) ≡ richer_advance more (advanced setting listed course)
+advanced-lasts : {S : Type 0} (system : System S) (facts : IsSystem system) (listed : List ℕ) (more : ℕ)
+    (course : Course S) →
+    AdvanceIsWhole (advanced system listed course) →
+    advanced system listed (richer_course more course) ≡ richer_advance more (advanced system listed course)
 unfolding advanced
-advanced-lasts setting listed more course =
-    advanced_with-lasts setting more course (choose listed course.policy (enabled setting course.state))
+advanced-lasts system facts listed more course =
+    advanced_with-lasts system facts more course (choose listed course.policy (system.enabled course.state))
 
 -- a run that is not spent has no turn that was cut
-onward-whole : (go : Course → Run) (advance : Advance) →
-    (onward_or_told go advance).outcome ≢ outcomes.Spent → AdvanceIsWhole advance
-onward-whole go (Onward next) whole = tt
-onward-whole go (Over last outcome) whole = whole
+onward-whole : {S : Type 0} (system : System S) (go : Course S → Run) (advance : Advance S) →
+    (onward_or_told system go advance).outcome ≢ outcomes.Spent → AdvanceIsWhole advance
+onward-whole system go (Onward next) whole = tt
+onward-whole system go (Over last outcome) whole = whole
 
-onward-lasts : (more : ℕ) (go other : Course → Run) (advance : Advance) →
-    ((next : Course) → (go next).outcome ≢ outcomes.Spent → other (richer_course more next) ≡ go next) →
-    (onward_or_told go advance).outcome ≢ outcomes.Spent →
-    onward_or_told other (richer_advance more advance) ≡ onward_or_told go advance
-onward-lasts more go other (Onward next) on whole = on next whole
-onward-lasts more go other (Over last outcome) on whole = refl
+onward-lasts : {S : Type 0} (system : System S) (more : ℕ) (go other : Course S → Run) (advance : Advance S) →
+    ((next : Course S) → (go next).outcome ≢ outcomes.Spent → other (richer_course more next) ≡ go next) →
+    (onward_or_told system go advance).outcome ≢ outcomes.Spent →
+    onward_or_told system other (richer_advance more advance) ≡ onward_or_told system go advance
+onward-lasts system more go other (Onward next) on whole = on next whole
+onward-lasts system more go other (Over last outcome) on whole = refl
 
-run_from-lasts : (setting : Setting) (listed : List ℕ) (more most most' : ℕ) (course : Course) → most ≤ most' →
-    (run_from most setting listed course).outcome ≢ outcomes.Spent →
-    run_from most' setting listed (richer_course more course) ≡ run_from most setting listed course
+run_from-lasts : {S : Type 0} (system : System S) (facts : IsSystem system) (listed : List ℕ) (more most most' : ℕ)
+    (course : Course S) → most ≤ most' →
+    (run_from most system listed course).outcome ≢ outcomes.Spent →
+    run_from most' system listed (richer_course more course) ≡ run_from most system listed course
 unfolding run_from
-run_from-lasts setting listed more zero most' course h whole = absurd (whole refl)
-run_from-lasts setting listed more (suc most) zero course h whole = absurd (omega arith)
-run_from-lasts setting listed more (suc most) (suc most') course h whole =
-    let lasts = advanced-lasts setting listed more course
-    (onward-whole (run_from most setting listed) (advanced setting listed course) whole) in
-    rw lasts (onward-lasts more (run_from most setting listed) (run_from most' setting listed)
-    (advanced setting listed course)
-    (λ next. run_from-lasts setting listed more most most' next (omega arith)) whole)
+run_from-lasts system facts listed more zero most' course h whole = absurd (whole refl)
+run_from-lasts system facts listed more (suc most) zero course h whole = absurd (omega arith)
+run_from-lasts system facts listed more (suc most) (suc most') course h whole =
+    let lasts = advanced-lasts system facts listed more course
+    (onward-whole system (run_from most system listed) (advanced system listed course) whole) in
+    rw lasts (onward-lasts system more (run_from most system listed) (run_from most' system listed)
+    (advanced system listed course)
+    (λ next. run_from-lasts system facts listed more most most' next (omega arith)) whole)
 
 -- a run that is not spent is the run of every larger budget
-pub run_of-lasts : (setting : Setting) (listed : List ℕ) (steps more : ℕ) → steps ≤ more →
-    (run_of setting listed steps).outcome ≢ outcomes.Spent → run_of setting listed more ≡ run_of setting listed steps
+pub run_of-lasts : {S : Type 0} (system : System S) (facts : IsSystem system) (listed : List ℕ) (steps more : ℕ) →
+    steps ≤ more →
+    (run_of system listed steps).outcome ≢ outcomes.Spent → run_of system listed more ≡ run_of system listed steps
 unfolding run_of
-run_of-lasts setting listed steps more h whole =
+run_of-lasts system facts listed steps more h whole =
     let sum : more ≡ steps + (more - steps) = omega arith in
-    let lasts = run_from-lasts setting listed (more - steps) (steps + 1) (more + 1) (begun setting steps) (omega arith) whole in
-    ap (λ budget. run_from (more + 1) setting listed (begun setting budget)) sum ∙ lasts
+    let lasts = run_from-lasts system facts listed (more - steps) (steps + 1) (more + 1) (begun system steps) (omega arith) whole in
+    ap (λ budget. run_from (more + 1) system listed (begun system budget)) sum ∙ lasts

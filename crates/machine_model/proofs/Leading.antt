@@ -6,51 +6,50 @@ use Rattle.machine_model.specs.declared.run.Outcome.TheVariants as outcomes
 use Rattle.machine_model.specs.declared.run.Run.{Run}
 use Rattle.machine_model.specs.declared.run.TurnEnd.{TurnEnd}
 use Rattle.machine_model.specs.declared.run.TurnEnd.TheVariants as ends
-use Rattle.machine_model.specs.Enabled.{enabled}
 use Rattle.machine_model.specs.Policy.{Choice, Policy, choose}
 use Rattle.machine_model.specs.Run.{Advance, Course, advanced, advanced_by, advanced_with, after_turn, onward_or_told, run_from, told}
 use Rattle.machine_model.specs.Run.Advance.{Onward, Over}
-use Rattle.machine_model.specs.Setting.{Setting}
-use Rattle.machine_model.specs.Turn.{turn}
-use Rattle.machine_model.proofs.Accounts.{turn-balances}
+use Rattle.machine_model.specs.System.{System}
+use Rattle.machine_model.specs.SystemLaws.{IsSystem}
 use Rattle.machine_model.proofs.Policies.{choice-enabled, choice-is_last, choice-listed, choice-unless_none}
 use Rattle.machine_model.proofs.Replays.{Begins, Begins-itself, IsAt, chosen_by, may-choose, mode-stays, next-in}
 
 -- from this course on, a chooser that is as far in the list as the course has turns gives the run, whatever chose
 -- the turns before
-abbrev pub Returns : Setting → List ℕ → Course → Run → Type 0
-Returns setting again course run =
+abbrev pub Returns : {S : Type 0} → System S → List ℕ → Course S → Run → Type 0
+Returns system again course run =
     (most : ℕ) (policy : Policy) → course.left < most → IsAt policy (length course.turns) →
-    run_from most setting again (chosen_by policy course) ≡ run
+    run_from most system again (chosen_by policy course) ≡ run
 
 -- the course after a turn that was chosen
-abbrev pub next_course : Setting → Course → Choice → Course
-next_course setting course choice = after_turn course choice (turn setting course.state choice.thread course.left)
+abbrev pub next_course : {S : Type 0} → System S → Course S → Choice → Course S
+next_course system course choice = after_turn course choice (system.turn course.state choice.thread course.left)
 
 -- and how the turn ends
-abbrev pub end_of : Setting → Course → Choice → TurnEnd
-end_of setting course choice = (turn setting course.state choice.thread course.left).end
+abbrev pub end_of : {S : Type 0} → System S → Course S → Choice → TurnEnd
+end_of system course choice = (system.turn course.state choice.thread course.left).end
 
-abbrev pub IsEnabled : Setting → Course → ℕ → Type 0
-IsEnabled setting course thread = Contains (enabled setting course.state) thread
+abbrev pub IsEnabled : {S : Type 0} → System S → Course S → ℕ → Type 0
+IsEnabled system course thread = Contains (system.enabled course.state) thread
 
 -- the listed turn is taken again, and the chooser is one further in the list
-record Again (again : List ℕ) (setting : Setting) (course : Course) (choice : Choice) (policy : Policy) : Type 0 where
+record Again {S : Type 0} (again : List ℕ) (system : System S) (course : Course S) (choice : Choice) (policy : Policy) : Type 0 where
   next : Policy
   at : IsAt next (length (course.turns ++ choice.thread ∷ []))
-  advances : advanced setting again (chosen_by policy course)
-      ≡ advanced_by choice.thread (chosen_by next (next_course setting course choice)) (end_of setting course choice)
+  advances : advanced system again (chosen_by policy course)
+      ≡ advanced_by choice.thread (chosen_by next (next_course system course choice)) (end_of system course choice)
 
-takes-again : (again : List ℕ) (setting : Setting) (course : Course) (choice : Choice) (policy : Policy) →
-    IsEnabled setting course choice.thread → slice_get again (length course.turns) ≡ Some choice.thread →
-    IsAt policy (length course.turns) → Again again setting course choice policy
+takes-again : {S : Type 0} (again : List ℕ) (system : System S) (course : Course S) (choice : Choice)
+    (policy : Policy) →
+    IsEnabled system course choice.thread → slice_get again (length course.turns) ≡ Some choice.thread →
+    IsAt policy (length course.turns) → Again again system course choice policy
 unfolding advanced
-takes-again again setting course choice policy among listed at = go (choose again policy threads) refl
+takes-again again system course choice policy among listed at = go (choose again policy threads) refl
   where
     threads : List ℕ
-    threads = enabled setting course.state
+    threads = system.enabled course.state
 
-    go : (found : Option Choice) → choose again policy threads ≡ found → Again again setting course choice policy
+    go : (found : Option Choice) → choose again policy threads ≡ found → Again again system course choice policy
     go None found =
         absurd (choice-unless_none again policy threads choice.thread found among (may-choose policy choice.thread at.0))
     go (Some other) found =
@@ -65,30 +64,31 @@ takes-again again setting course choice policy among listed at = go (choose agai
         }
 
 -- what a turn leads to gives the run
-abbrev pub AdvanceReturns : Setting → List ℕ → Run → Advance → Type 0
-AdvanceReturns setting again run (Onward next) = Returns setting again next run
-AdvanceReturns setting again run (Over last outcome) = told last outcome ≡ run
+abbrev pub AdvanceReturns : {S : Type 0} → System S → List ℕ → Run → Advance S → Type 0
+AdvanceReturns system again run (Onward next) = Returns system again next run
+AdvanceReturns system again run (Over last outcome) = told system last outcome ≡ run
 
-pub returns-turn : (setting : Setting) (again : List ℕ) (run : Run) (course : Course) (choice : Choice) →
-    IsEnabled setting course choice.thread → slice_get again (length course.turns) ≡ Some choice.thread →
-    AdvanceReturns setting again run (advanced_by choice.thread (next_course setting course choice) (end_of setting course choice)) →
-    Returns setting again course run
+pub returns-turn : {S : Type 0} (system : System S) (facts : IsSystem system) (again : List ℕ) (run : Run)
+    (course : Course S) (choice : Choice) →
+    IsEnabled system course choice.thread → slice_get again (length course.turns) ≡ Some choice.thread →
+    AdvanceReturns system again run (advanced_by choice.thread (next_course system course choice) (end_of system course choice)) →
+    Returns system again course run
 unfolding run_from
-returns-turn setting again run course choice among listed leads zero policy less at = absurd (omega arith)
-returns-turn setting again run course choice among listed leads (suc most) policy less at =
-    rw taken.advances (go (end_of setting course choice) refl leads)
+returns-turn system facts again run course choice among listed leads zero policy less at = absurd (omega arith)
+returns-turn {S} system facts again run course choice among listed leads (suc most) policy less at =
+    rw taken.advances (go (end_of system course choice) refl leads)
   where
-    taken : Again again setting course choice policy
-    taken = takes-again again setting course choice policy among listed at
+    taken : Again again system course choice policy
+    taken = takes-again again system course choice policy among listed at
 
-    after : Course
-    after = next_course setting course choice
+    after : Course S
+    after = next_course system course choice
 
-    go : (end : TurnEnd) → end_of setting course choice ≡ end →
-        AdvanceReturns setting again run (advanced_by choice.thread after end) →
-        onward_or_told (run_from most setting again) (advanced_by choice.thread (chosen_by taken.next after) end) ≡ run
+    go : (end : TurnEnd) → end_of system course choice ≡ end →
+        AdvanceReturns system again run (advanced_by choice.thread after end) →
+        onward_or_told system (run_from most system again) (advanced_by choice.thread (chosen_by taken.next after) end) ≡ run
     go ends.Going is back =
-        let balances = turn-balances setting course.state choice.thread course.left in
+        let balances = facts.costs course.state choice.thread course.left in
         let pays = rw is at balances.pays in
         back most taken.next (omega (arith, balances.grows, pays)) taken.at
     go (ends.Exit status) is back = back
@@ -96,29 +96,29 @@ returns-turn setting again run course choice among listed leads (suc most) polic
     go ends.Spent is back = back
 
 -- where no thread is enabled, none is chosen again
-pub returns-none : (setting : Setting) (again : List ℕ) (course : Course) →
-    ((thread : ℕ) → ¬ IsEnabled setting course thread) → Returns setting again course (told course outcomes.Deadlock)
+pub returns-none : {S : Type 0} (system : System S) (again : List ℕ) (course : Course S) →
+    ((thread : ℕ) → ¬ IsEnabled system course thread) → Returns system again course (told system course outcomes.Deadlock)
 unfolding run_from advanced
-returns-none setting again course none zero policy less at = absurd (omega arith)
-returns-none setting again course none (suc most) policy less at = go (choose again policy threads) refl
+returns-none system again course none zero policy less at = absurd (omega arith)
+returns-none system again course none (suc most) policy less at = go (choose again policy threads) refl
   where
     threads : List ℕ
-    threads = enabled setting course.state
+    threads = system.enabled course.state
 
     go : (found : Option Choice) → choose again policy threads ≡ found →
-        onward_or_told (run_from most setting again) (advanced_with setting (chosen_by policy course) found)
-        ≡ told course outcomes.Deadlock
+        onward_or_told system (run_from most system again) (advanced_with system (chosen_by policy course) found)
+        ≡ told system course outcomes.Deadlock
     go None found = refl
     go (Some choice) found = absurd (none choice.thread (choice-enabled again policy threads choice found).0)
 
 -- turns lead from a course to another: what returns from there, returns from here
-pub record Leads (setting : Setting) (course after : Course) : Type 0 where
+pub record Leads {S : Type 0} (system : System S) (course after : Course S) : Type 0 where
   pub begins : Begins course.turns after.turns
-  pub back : (again : List ℕ) (run : Run) → Begins after.turns again → Returns setting again after run →
-      Returns setting again course run
+  pub back : (again : List ℕ) (run : Run) → Begins after.turns again → Returns system again after run →
+      Returns system again course run
 
-pub leads-itself : (setting : Setting) (course : Course) → Leads setting course course
-leads-itself setting course =
+pub leads-itself : {S : Type 0} (system : System S) (course : Course S) → Leads system course course
+leads-itself system course =
     record { begins = Begins-itself course.turns; back = λ again run begins returns. returns }
 
 pub Begins-on : (one two three : List ℕ) → Begins one two → Begins two three → Begins one three
@@ -127,9 +127,10 @@ Begins-on one two three first second = (
   rw (second.1, first.1) (append_assoc one first.0 second.0),
 )
 
-pub leads-on : (setting : Setting) (one two three : Course) → Leads setting one two → Leads setting two three →
-    Leads setting one three
-leads-on setting one two three first second = record {
+pub leads-on : {S : Type 0} (system : System S) (one two three : Course S) → Leads system one two →
+    Leads system two three →
+    Leads system one three
+leads-on system one two three first second = record {
   begins = Begins-on one.turns two.turns three.turns first.begins second.begins;
   back = λ again run begins returns.
       first.back again run (Begins-on two.turns three.turns again second.begins begins)
@@ -141,33 +142,35 @@ pub listed-next : (turns : List ℕ) (thread : ℕ) (again : List ℕ) → Begin
     slice_get again (length turns) ≡ Some thread
 listed-next turns thread again begins = next-in turns thread again begins.0 begins.1
 
-pub leads-turn : (setting : Setting) (course next : Course) (choice : Choice) → IsEnabled setting course choice.thread →
-    advanced_by choice.thread (next_course setting course choice) (end_of setting course choice) ≡ Onward next →
-    next.turns ≡ course.turns ++ choice.thread ∷ [] → Leads setting course next
-leads-turn setting course next choice among onward turns = record {
+pub leads-turn : {S : Type 0} (system : System S) (facts : IsSystem system) (course next : Course S)
+    (choice : Choice) → IsEnabled system course choice.thread →
+    advanced_by choice.thread (next_course system course choice) (end_of system course choice) ≡ Onward next →
+    next.turns ≡ course.turns ++ choice.thread ∷ [] → Leads system course next
+leads-turn system facts course next choice among onward turns = record {
   begins = (choice.thread ∷ [], turns);
   back = λ again run begins returns.
-      returns-turn setting again run course choice among
+      returns-turn system facts again run course choice among
       (listed-next course.turns choice.thread again (rw turns at begins))
       (rw onward returns);
 }
 
 -- such a turn costs a step
-pub turn-less : (setting : Setting) (course next : Course) (choice : Choice) (most : ℕ) →
-    advanced_by choice.thread (next_course setting course choice) (end_of setting course choice) ≡ Onward next →
+pub turn-less : {S : Type 0} (system : System S) (facts : IsSystem system) (course next : Course S)
+    (choice : Choice) (most : ℕ) →
+    advanced_by choice.thread (next_course system course choice) (end_of system course choice) ≡ Onward next →
     course.left < suc most → next.left < most
-turn-less setting course next choice most onward less = go (end_of setting course choice) refl onward
+turn-less {S} system facts course next choice most onward less = go (end_of system course choice) refl onward
   where
-    after : Course
-    after = next_course setting course choice
+    after : Course S
+    after = next_course system course choice
 
-    go : (end : TurnEnd) → end_of setting course choice ≡ end → advanced_by choice.thread after end ≡ Onward next →
+    go : (end : TurnEnd) → end_of system course choice ≡ end → advanced_by choice.thread after end ≡ Onward next →
         next.left < most
     go ends.Going ending onward =
-        let balances = turn-balances setting course.state choice.thread course.left in
+        let balances = facts.costs course.state choice.thread course.left in
         let pays = rw ending at balances.pays in
         let same : after ≡ next = cc in
-        omega (arith, less, balances.grows, pays, ap (λ (one : Course). one.left) same)
+        omega (arith, less, balances.grows, pays, ap (λ (one : Course S). one.left) same)
     go (ends.Exit status) ending onward = absurd (let h : ⊥ = cc in h)
     go (ends.Trap trap site) ending onward = absurd (let h : ⊥ = cc in h)
     go ends.Spent ending onward = absurd (let h : ⊥ = cc in h)

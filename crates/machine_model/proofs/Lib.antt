@@ -13,6 +13,7 @@ pub mod Invariants
 pub mod JobReplays
 pub mod Larger
 pub mod Leading
+pub mod Machines
 pub mod Moments
 pub mod OtherBytes
 pub mod OtherOrder

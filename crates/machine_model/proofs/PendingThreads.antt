@@ -20,6 +20,7 @@ use Rattle.machine_model.specs.PendingLaws.{ArePending, IsNextAt, IsNextIn, IsPe
 use Rattle.machine_model.specs.Setting.{Setting}
 use Rattle.machine_model.specs.Step.{waiting}
 use Rattle.machine_model.specs.Thread.{has_ended, made, top}
+use Rattle.machine_model.specs.System.{machine_of}
 use Rattle.machine_model.specs.Turn.{turn}
 use Rattle.machine_model.proofs.Changes.{ChangesKeep, turn-ends}
 use Rattle.machine_model.proofs.Invariants.{AtEnd, moments-hold}
@@ -143,4 +144,4 @@ turn-keeps_pending setting state number left pend going = turn-pends setting num
 
 pub moments-are_pending : MomentsArePending
 moments-are_pending setting listed steps =
-    moments-hold setting (ArePending setting.code) (turn-keeps_pending setting) listed steps (started-are_pending setting.code)
+    moments-hold (machine_of setting) (ArePending setting.code) (turn-keeps_pending setting) listed steps (started-are_pending setting.code)

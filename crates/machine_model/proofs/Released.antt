@@ -1,5 +1,5 @@
 -- A thread that is held with an access pending can be chosen as long as the others take turns.
-use Rattle.std.proofs.Common.{◌≡◌, ℕ, zero, suc, Bool, true, false, cond, eqb, not, ◌&&◌, List, [], ◌∷◌, filter, length, Option, Some, None, refl, ap, ◌∙◌, arith, zero-add}
+use Rattle.std.proofs.Common.{◌≡◌, ◌≢◌, ℕ, zero, suc, Bool, true, false, cond, eqb, not, ◌&&◌, List, [], ◌∷◌, filter, length, Option, Some, None, refl, ap, ◌∙◌, arith, zero-add}
 use Rattle.std.specs.Prelude.{Contains, slice_get}
 use Rattle.std.specs.List.{range_with_len}
 use Rattle.std.proofs.lemmas.List.Elements.{All-contains, filter_passes}
@@ -20,16 +20,19 @@ use Rattle.machine_model.specs.Enabled.{enabled, is_enabled, may_run, waits, wai
 use Rattle.machine_model.specs.Moment.{Moment, access_at}
 use Rattle.machine_model.specs.Setting.{Setting}
 use Rattle.machine_model.specs.Shared.{Shared, shared_of}
+use Rattle.machine_model.specs.System.{System, machine_of}
+use Rattle.machine_model.specs.SystemLaws.{MayDo}
 use Rattle.machine_model.specs.Thread.{has_ended, top}
+use Rattle.machine_model.specs.Turn.{turn}
 use Rattle.machine_model.proofs.Choices.{Contains-later}
-use Rattle.machine_model.proofs.Waiting.{Keeps}
+use Rattle.machine_model.proofs.Waiting.{Keeps, turn-keeps}
 
 -- the thread of this number has not ended, and waits to do an access
-pub record Ready (setting : Setting) (threads : List Thread) (number : ℕ) (access : Access) : Type 0 where
-  pub thread : Thread
-  pub is : slice_get threads number ≡ Some thread
-  pub lasts : has_ended thread ≡ false
-  pub accesses : access_of (pending_operation setting.code thread thread.pending) ≡ Some access
+record Ready (setting : Setting) (threads : List Thread) (number : ℕ) (access : Access) : Type 0 where
+  thread : Thread
+  is : slice_get threads number ≡ Some thread
+  lasts : has_ended thread ≡ false
+  accesses : access_of (pending_operation setting.code thread thread.pending) ≡ Some access
 
 -- an access never has to wait
 inst-runs : (shared : Shared) (number : ℕ) (site : Site) (decided : List ℕ) (inst : Inst) (access : Access) →
@@ -68,7 +71,7 @@ joined-alike setting thread joined (At site decided) = refl
 joined-alike setting thread joined (CondReturn site decided) = refl
 joined-alike setting thread joined Nothing = refl
 
-pub ready-kept : (setting : Setting) (number : ℕ) (access : Access) (before after : List Thread) →
+ready-kept : (setting : Setting) (number : ℕ) (access : Access) (before after : List Thread) →
     Keeps number before after → Ready setting before number access → Ready setting after number access
 ready-kept setting number access before after keeps ready =
     let kept = keeps ready.thread ready.is in
@@ -80,7 +83,7 @@ ready-kept setting number access before after keeps ready =
     }
 
 -- so it still waits to do that
-pub ready-waits : (setting : Setting) (state : State) (number : ℕ) (access : Access) →
+ready-waits : (setting : Setting) (state : State) (number : ℕ) (access : Access) →
     Ready setting state.threads number access → access_of (pending setting.code state number) ≡ Some access
 ready-waits setting state number access ready = rw ready.is ready.accesses
 
@@ -98,7 +101,7 @@ Contains-filtered test (first ∷ others) thread (suc place, within, is) passes 
     go false later = later
 
 -- and it is one of the enabled threads
-pub ready-enabled : (setting : Setting) (state : State) (number : ℕ) (access : Access) →
+ready-enabled : (setting : Setting) (state : State) (number : ℕ) (access : Access) →
     Ready setting state.threads number access → Contains (enabled setting state) number
 unfolding enabled is_enabled
 ready-enabled setting state number access ready =
@@ -126,11 +129,6 @@ access-ready setting state number access (Some thread) is runs accesses = record
   accesses = accesses;
 }
 
-accesses-unless : (spent : Bool) (found : Option Access) (access : Access) → cond spent None found ≡ Some access →
-    found ≡ Some access
-accesses-unless true found access is = absurd (let h : ⊥ = cc in h)
-accesses-unless false found access is = is
-
 may-run : (setting : Setting) (state : State) (number : ℕ) → Contains (enabled setting state) number →
     may_run setting (shared_of state) number (slice_get state.threads number) ≡ true
 unfolding enabled is_enabled
@@ -139,12 +137,28 @@ may-run setting state number among =
     All-contains (λ thread. is_enabled setting state thread ≡ true) (filter (is_enabled setting state) threads) number
     (filter_passes (is_enabled setting state) threads) among
 
--- so is the thread of a turn that does an access
-pub moment-ready : (setting : Setting) (moment : Moment) (access : Access) →
-    Contains (enabled setting moment.before.state) moment.thread → access_at setting moment ≡ Some access →
-    Ready setting moment.before.state.threads moment.thread access
-moment-ready setting moment access among accesses =
-    let state = moment.before.state in
-    access-ready setting state moment.thread access (slice_get state.threads moment.thread) refl
-    (may-run setting state moment.thread among)
-    (accesses-unless (eqb moment.before.left 0) (access_of (pending setting.code state moment.thread)) access accesses)
+-- the turn of another thread leaves it so
+pub machine-keeps : (setting : Setting) (state : State) (number other left : ℕ) (access : Access) → number ≢ other →
+    MayDo (machine_of setting) state number access →
+    MayDo (machine_of setting) (turn setting state other left).after number access
+machine-keeps setting state number other left access apart may =
+    let after = (turn setting state other left).after in
+    let ready = access-ready setting state number access (slice_get state.threads number) refl
+    (may-run setting state number may.may_run) may.waits in
+    let kept = ready-kept setting number access state.threads after.threads (turn-keeps number other apart setting state left) ready in
+    record { may_run = ready-enabled setting after number access kept; waits = ready-waits setting after number access kept }
+
+accesses-unless : (spent : Bool) (found : Option Access) (access : Access) → cond spent None found ≡ Some access →
+    found ≡ Some access
+accesses-unless true found access is = absurd (let h : ⊥ = cc in h)
+accesses-unless false found access is = is
+
+-- the thread of a turn that does an access may do it
+pub moment-may_do : {S : Type 0} (system : System S) (moment : Moment S) (access : Access) →
+    Contains (system.enabled moment.before.state) moment.thread → access_at system moment ≡ Some access →
+    MayDo system moment.before.state moment.thread access
+moment-may_do system moment access among accesses = record {
+  may_run = among;
+  waits = accesses-unless (eqb moment.before.left 0)
+      (access_of (system.pending moment.before.state moment.thread)) access accesses;
+}

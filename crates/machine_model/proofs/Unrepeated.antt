@@ -6,23 +6,24 @@ use Rattle.machine_model.specs.JobLaws.{IsRepeat, UnrepeatedIsRun}
 use Rattle.machine_model.specs.Repeat.{Snapshot, earlier_turn, repeats, snapshot}
 use Rattle.machine_model.specs.Run.{Advance, Course, advanced, begun, onward_or_told, run_from, run_of, told}
 use Rattle.machine_model.specs.Run.Advance.{Onward, Over}
-use Rattle.machine_model.specs.Setting.{Setting}
+use Rattle.machine_model.specs.System.{System}
 use Rattle.machine_model.specs.TestedRun.{tested_after, tested_from, tested_run}
 
 -- from here on the runs are the same, unless the tested one repeats a turn
-abbrev Agree : (List Snapshot → Course → Run) → (Course → Run) → Type 0
-Agree tested go =
-    (past : List Snapshot) (course : Course) → ¬ IsRepeat (tested past course).outcome → tested past course ≡ go course
+abbrev Agree : {S : Type 0} → (List (Snapshot S) → Course S → Run) → (Course S → Run) → Type 0
+Agree {S} tested go =
+    (past : List (Snapshot S)) (course : Course S) → ¬ IsRepeat (tested past course).outcome → tested past course ≡ go course
 
-tested_after-agrees : (tested : List Snapshot → Course → Run) (go : Course → Run) (past : List Snapshot)
-    (advance : Advance) → Agree tested go →
-    ¬ IsRepeat (tested_after tested past advance).outcome →
-    tested_after tested past advance ≡ onward_or_told go advance
-tested_after-agrees tested go past (Over course outcome) agree never = refl
-tested_after-agrees tested go past (Onward course) agree never = by_repeat (repeats past (snapshot course)) never
+tested_after-agrees : {S : Type 0} (system : System S) (tested : List (Snapshot S) → Course S → Run)
+    (go : Course S → Run) (past : List (Snapshot S))
+    (advance : Advance S) → Agree tested go →
+    ¬ IsRepeat (tested_after system tested past advance).outcome →
+    tested_after system tested past advance ≡ onward_or_told system go advance
+tested_after-agrees system tested go past (Over course outcome) agree never = refl
+tested_after-agrees system tested go past (Onward course) agree never = by_repeat (repeats system past (snapshot course)) never
   where
     ended : Run
-    ended = told course (outcomes.Repeats (length past) (earlier_turn (length past)))
+    ended = told system course (outcomes.Repeats (length past) (earlier_turn (length past)))
 
     later : Run
     later = tested (past ++ snapshot course ∷ []) course
@@ -31,16 +32,16 @@ tested_after-agrees tested go past (Onward course) agree never = by_repeat (repe
     by_repeat true never = absurd (never tt)
     by_repeat false never = agree (past ++ snapshot course ∷ []) course never
 
-pub tested_from-agrees : (most : ℕ) (setting : Setting) (listed : List ℕ) →
-    Agree (tested_from most setting listed) (run_from most setting listed)
+pub tested_from-agrees : {S : Type 0} (most : ℕ) (system : System S) (listed : List ℕ) →
+    Agree (tested_from most system listed) (run_from most system listed)
 unfolding tested_from run_from
-tested_from-agrees zero setting listed = λ past course never. refl
-tested_from-agrees (suc most) setting listed = λ past course never.
-    tested_after-agrees (tested_from most setting listed) (run_from most setting listed) past
-    (advanced setting listed course) (tested_from-agrees most setting listed) never
+tested_from-agrees zero system listed = λ past course never. refl
+tested_from-agrees (suc most) system listed = λ past course never.
+    tested_after-agrees system (tested_from most system listed) (run_from most system listed) past
+    (advanced system listed course) (tested_from-agrees most system listed) never
 
-pub unrepeated-is_run : UnrepeatedIsRun
+pub unrepeated-is_run : {S : Type 0} (system : System S) → UnrepeatedIsRun system
 unfolding tested_run run_of
-unrepeated-is_run setting listed steps never =
-    let start = begun setting steps in
-    tested_from-agrees (steps + 1) setting listed (snapshot start ∷ []) start never
+unrepeated-is_run system listed steps never =
+    let start = begun system steps in
+    tested_from-agrees (steps + 1) system listed (snapshot start ∷ []) start never

@@ -33,6 +33,7 @@ use Rattle.ir_types.specs.declared.«module».GlobalVar.{GlobalVar}
 use Rattle.machine_model.specs.declared.run.Run.{Run}
 use Rattle.machine_model.specs.declared.run.Outcome.TheVariants.{Exit, Spent}
 use Rattle.machine_model.specs.Run.{run_of}
+use Rattle.machine_model.specs.System.{machine_of}
 
 abbrev pub one : Word
 one = record { width = W32; bits = 1; in_range = lit< tt }
@@ -101,7 +102,7 @@ example = record { globals = g ∷ t ∷ []; functions = a ∷ main ∷ []; main
 -- the run that begins with two turns of main, within a budget of steps; it reads no input
 abbrev pub run_within : Input → ℕ → Run
 run_within input steps =
-    run_of (record { code = example; input = input; watch = [] }) (0 ∷ 0 ∷ []) steps
+    run_of (machine_of (record { code = example; input = input; watch = [] })) (0 ∷ 0 ∷ []) steps
 
 abbrev pub whole : Run
 whole = record {

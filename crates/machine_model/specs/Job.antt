@@ -8,6 +8,7 @@ use Rattle.machine_model.specs.declared.case.Case.{Case}
 use Rattle.machine_model.specs.declared.race.Race.{Race}
 use Rattle.machine_model.specs.declared.run.Reason.{Reason}
 use Rattle.machine_model.specs.declared.run.Run.{Run}
+use Rattle.machine_model.specs.declared.state.State.{State}
 use Rattle.machine_model.specs.Hold.{Held, held_from}
 use Rattle.machine_model.specs.Hold.Held.{Done, NotEnforced, Ran}
 use Rattle.machine_model.specs.Moment.{Moment, access_at}
@@ -16,51 +17,51 @@ use Rattle.machine_model.specs.Primary.{setting_of}
 use Rattle.machine_model.specs.Reach.{Reaches, from_first, primary_moments}
 use Rattle.machine_model.specs.Repeat.{Snapshot, snapshot}
 use Rattle.machine_model.specs.Run.{Course}
-use Rattle.machine_model.specs.Setting.{Setting}
+use Rattle.machine_model.specs.System.{System, machine_of}
 use Rattle.machine_model.specs.TestedRun.{tested_on, tested_run}
 
 -- the primary of this input, with the repeat test after each turn
 abbrev pub PrimaryJob : Module → Case → Input → Run
-PrimaryJob code case input = tested_run (setting_of code case input) case.turns case.steps
+PrimaryJob code case input = tested_run (machine_of (setting_of code case input)) case.turns case.steps
 
-abbrev pub snapshots : List Moment → List Snapshot
+abbrev pub snapshots : {S : Type 0} → List (Moment S) → List (Snapshot S)
 snapshots moments = map (λ moment. snapshot moment.before) moments
 
-abbrev pub held_course : ℕ → Course → Course
+abbrev pub held_course : {S : Type 0} → ℕ → Course S → Course S
 held_course thread course = record course { policy = holding thread course.policy }
 
 -- the hold point of a race: the snapshots up to it, the course before the race's first access, and that access
-pub record HoldPoint : Type 0 where
-  pub past : List Snapshot
-  pub course : Course
+pub record HoldPoint (S : Type 0) : Type 0 where
+  pub past : List (Snapshot S)
+  pub course : Course S
   pub first : Access
 
-abbrev pub point_at : List Snapshot → Moment → Option Access → Option HoldPoint
+abbrev pub point_at : {S : Type 0} → List (Snapshot S) → Moment S → Option Access → Option (HoldPoint S)
 point_at past moment None = None
 point_at past moment (Some first) = Some (record { past = past; course = moment.before; first = first })
 
 -- of the moments of a run, and of those from the first access on
-abbrev pub point_in : Setting → List Moment → List Moment → Option HoldPoint
-point_in setting moments [] = None
-point_in setting moments (moment ∷ later) =
-    point_at (snapshots (take (length moments - length later) moments)) moment (access_at setting moment)
+abbrev pub point_in : {S : Type 0} → System S → List (Moment S) → List (Moment S) → Option (HoldPoint S)
+point_in system moments [] = None
+point_in system moments (moment ∷ later) =
+    point_at (snapshots (take (length moments - length later) moments)) moment (access_at system moment)
 
 -- of the primary of this input; up to the hold point there is no repeat test
-unfoldable pub hold_point : Module → Case → Race → Input → Option HoldPoint
+unfoldable pub hold_point : Module → Case → Race → Input → Option (HoldPoint State)
 hold_point code case race input =
     let moments = primary_moments code case input in
-    point_in (setting_of code case input) moments (from_first race moments)
+    point_in (machine_of (setting_of code case input)) moments (from_first race moments)
 
 -- the hold from its point on
-abbrev pub held_on : Setting → List ℕ → Race → HoldPoint → Held
-held_on setting listed race point =
-    held_from (point.course.left + 1) setting listed race point.first point.past (held_course race.t1 point.course)
+abbrev pub held_on : {S : Type 0} → System S → List ℕ → Race → HoldPoint S → Held S
+held_on system listed race point =
+    held_from (point.course.left + 1) system listed race point.first point.past (held_course race.t1 point.course)
 
 -- how the hold ends, where the primary of this input reaches the race
-unfoldable pub HeldOn : Module → Case → Race → Input → Option Held
+unfoldable pub HeldOn : Module → Case → Race → Input → Option (Held State)
 HeldOn code case race input =
     if Reaches code case race input
-    then option_map (held_on (setting_of code case input) case.turns race) (hold_point code case race input)
+    then option_map (held_on (machine_of (setting_of code case input)) case.turns race) (hold_point code case race input)
     else None
 
 -- an alternate: a run, or why there is none
@@ -70,18 +71,18 @@ pub data Alternate : Type 0 where
   -- the primary of the input does not reach the race
   Absent : Alternate
 
-abbrev pub released_course : ℕ → Course → Course
+abbrev pub released_course : {S : Type 0} → ℕ → Course S → Course S
 released_course thread course = record course { policy = releasing thread course.policy }
 
 -- after the hold the first thread takes one turn, and the recorded turns are followed again
-abbrev pub alternate_after : Setting → List ℕ → Race → Option Held → Alternate
-alternate_after setting listed race None = Absent
-alternate_after setting listed race (Some (Done past course)) =
-    Runs (tested_on setting listed past (released_course race.t1 course))
-alternate_after setting listed race (Some (NotEnforced reason course)) = Not reason course.turns
-alternate_after setting listed race (Some (Ran run)) = Runs run
+abbrev pub alternate_after : {S : Type 0} → System S → List ℕ → Race → Option (Held S) → Alternate
+alternate_after system listed race None = Absent
+alternate_after system listed race (Some (Done past course)) =
+    Runs (tested_on system listed past (released_course race.t1 course))
+alternate_after system listed race (Some (NotEnforced reason course)) = Not reason course.turns
+alternate_after system listed race (Some (Ran run)) = Runs run
 
 -- the alternate of this input whose schedule follows the recorded turns
 abbrev pub AlternateJob : Module → Case → Race → Input → Alternate
 AlternateJob code case race input =
-    alternate_after (setting_of code case input) case.turns race (HeldOn code case race input)
+    alternate_after (machine_of (setting_of code case input)) case.turns race (HeldOn code case race input)

@@ -31,7 +31,10 @@ pub mod Run
 pub mod Runnable
 pub mod Setting
 pub mod Shared
+pub mod Start
 pub mod Step
+pub mod System
+pub mod SystemLaws
 pub mod TestedRun
 pub mod Thread
 pub mod Turn

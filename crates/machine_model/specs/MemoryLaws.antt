@@ -5,7 +5,8 @@ use Rattle.machine_model.specs.declared.state.ObjectKind.{ObjectKind}
 use Rattle.machine_model.specs.declared.state.State.{State}
 use Rattle.machine_model.specs.Memory.{covers, read, without, written}
 use Rattle.machine_model.specs.Moment.{Moment, moments_of}
-use Rattle.machine_model.specs.Run.{object_of_global}
+use Rattle.machine_model.specs.Start.{object_of_global}
+use Rattle.machine_model.specs.System.{machine_of}
 use Rattle.machine_model.specs.Setting.{Setting}
 use Rattle.machine_model.specs.Turn.{turn}
 
@@ -84,4 +85,4 @@ TurnKeepsApart =
 abbrev pub MomentsAreApart : Type 0
 MomentsAreApart =
     (setting : Setting) (listed : List ℕ) (steps : ℕ) → AreApart (map object_of_global setting.code.globals) →
-    All (λ (moment : Moment). AreApart moment.before.state.objects) (moments_of setting listed steps)
+    All (λ (moment : Moment State). AreApart moment.before.state.objects) (moments_of (machine_of setting) listed steps)

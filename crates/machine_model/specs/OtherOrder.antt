@@ -4,8 +4,8 @@ use Rattle.ir_types.specs.declared.input.Input.{Input}
 use Rattle.ir_types.specs.declared.«module».Module.{Module}
 use Rattle.machine_model.specs.declared.case.Case.{Case}
 use Rattle.machine_model.specs.declared.race.Race.{Race}
-use Rattle.machine_model.specs.Access.{access_of, pending}
-use Rattle.machine_model.specs.Enabled.{enabled}
+use Rattle.machine_model.specs.declared.state.State.{State}
+use Rattle.machine_model.specs.Access.{access_of}
 use Rattle.machine_model.specs.Hold.Held.{Done}
 use Rattle.machine_model.specs.HoldLaws.{DidSecond}
 use Rattle.machine_model.specs.Job.{HoldPoint, held_course, held_on, hold_point, released_course}
@@ -13,20 +13,21 @@ use Rattle.machine_model.specs.Policy.{Choice, choose}
 use Rattle.machine_model.specs.Primary.{setting_of}
 use Rattle.machine_model.specs.Repeat.{Snapshot}
 use Rattle.machine_model.specs.Run.{Course}
-use Rattle.machine_model.specs.Setting.{Setting}
+use Rattle.machine_model.specs.System.{System, machine_of}
 
 -- the last turn of the hold did the second access, which overlaps the first; the next turn of the alternate is the
 -- held thread's, and it still waits to do the first
-pub record IsTurnedRound (setting : Setting) (listed : List ℕ) (race : Race) (point : HoldPoint) (snapshots : List Snapshot) (after : Course) : Type 0 where
-  pub second : DidSecond setting listed race point.first point.past snapshots (held_course race.t1 point.course) after
+pub record IsTurnedRound {S : Type 0} (system : System S) (listed : List ℕ) (race : Race) (point : HoldPoint S) (snapshots : List (Snapshot S)) (after : Course S) : Type 0 where
+  pub second : DidSecond system listed race point.first point.past snapshots (held_course race.t1 point.course) after
   pub choice : Choice
-  pub chosen : choose listed (released_course race.t1 after).policy (enabled setting after.state) ≡ Some choice
+  pub chosen : choose listed (released_course race.t1 after).policy (system.enabled after.state) ≡ Some choice
   pub is_first : choice.thread ≡ race.t1
-  pub waits : access_of (pending setting.code after.state race.t1) ≡ Some point.first
+  pub waits : access_of (system.pending after.state race.t1) ≡ Some point.first
 
 abbrev pub OrderIsTurnedRound : Type 0
 OrderIsTurnedRound =
-    (code : Module) (case : Case) (race : Race) (input : Input) (point : HoldPoint) (snapshots : List Snapshot) (after : Course) →
+    (code : Module) (case : Case) (race : Race) (input : Input) (point : HoldPoint State)
+    (snapshots : List (Snapshot State)) (after : Course State) →
     hold_point code case race input ≡ Some point →
-    held_on (setting_of code case input) case.turns race point ≡ Done snapshots after →
-    IsTurnedRound (setting_of code case input) case.turns race point snapshots after
+    held_on (machine_of (setting_of code case input)) case.turns race point ≡ Done snapshots after →
+    IsTurnedRound (machine_of (setting_of code case input)) case.turns race point snapshots after

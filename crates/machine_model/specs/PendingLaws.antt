@@ -11,7 +11,8 @@ use Rattle.machine_model.specs.declared.state.Thread.{Thread}
 use Rattle.machine_model.specs.Code.{Placed, next_in}
 use Rattle.machine_model.specs.Decision.{addresses_of}
 use Rattle.machine_model.specs.Moment.{Moment, moments_of}
-use Rattle.machine_model.specs.Run.{started}
+use Rattle.machine_model.specs.Start.{started}
+use Rattle.machine_model.specs.System.{machine_of}
 use Rattle.machine_model.specs.Setting.{Setting}
 use Rattle.machine_model.specs.Thread.{has_ended, top}
 use Rattle.machine_model.specs.Turn.{turn}
@@ -52,4 +53,4 @@ TurnKeepsPending =
 abbrev pub MomentsArePending : Type 0
 MomentsArePending =
     (setting : Setting) (listed : List ℕ) (steps : ℕ) →
-    All (λ (moment : Moment). ArePending setting.code moment.before.state) (moments_of setting listed steps)
+    All (λ (moment : Moment State). ArePending setting.code moment.before.state) (moments_of (machine_of setting) listed steps)

@@ -1,18 +1,10 @@
 -- The repeat test of a run: after a turn everything is as it was after an earlier turn, but for the output and the
 -- counts of steps and turns. The earlier turn is the greatest power of two below the turn.
-use Rattle.std.specs.Prelude.{ℕ, zero, suc, ◌-◌, ◌*◌, Bool, true, false, ◌&&◌, ◌==◌, nat_le, nat_lt, List, [], length, slice_get, Option, Some, None, if◌then◌else◌}
-use Rattle.machine_model.specs.contracts.state.StatePartialEq.TheImpl as state
+use Rattle.std.specs.Prelude.{ℕ, zero, suc, ◌-◌, ◌*◌, Bool, true, false, ◌&&◌, ◌==◌, nat_le, nat_lt, List, length, slice_get, Option, Some, None, if◌then◌else◌}
 use Rattle.machine_model.specs.contracts.mode.ModePartialEq.TheImpl as mode
-use Rattle.machine_model.specs.declared.state.State.{State}
 use Rattle.machine_model.specs.Policy.{Policy}
 use Rattle.machine_model.specs.Run.{Course}
-
-abbrev pub without_output : State → State
-without_output state = record state { output = [] }
-
--- the states are equal, but for their output
-unfoldable pub same_state : State → State → Bool
-same_state one other = (state.ghosts).eq (without_output one) (without_output other)
+use Rattle.machine_model.specs.System.{System}
 
 abbrev pub same_last : Option ℕ → Option ℕ → Bool
 same_last None None = true
@@ -28,15 +20,15 @@ same_policy one other =
     && same_last one.follow.last other.follow.last
 
 -- what is compared of a course
-pub record Snapshot : Type 0 where
-  pub state : State
+pub record Snapshot (S : Type 0) : Type 0 where
+  pub state : S
   pub policy : Policy
 
-abbrev pub snapshot : Course → Snapshot
-snapshot course = record { state = without_output course.state; policy = course.policy }
+abbrev pub snapshot : {S : Type 0} → Course S → Snapshot S
+snapshot course = record { state = course.state; policy = course.policy }
 
-abbrev pub same_snapshot : Snapshot → Snapshot → Bool
-same_snapshot one other = same_state one.state other.state && same_policy one.policy other.policy
+abbrev pub same_snapshot : {S : Type 0} → System S → Snapshot S → Snapshot S → Bool
+same_snapshot system one other = system.same one.state other.state && same_policy one.policy other.policy
 
 -- the greatest power of two that is at most this number, which is not 0
 unfoldable pub power_within : ℕ → ℕ
@@ -47,11 +39,11 @@ power_within (suc n) = if nat_le (2 * power_within n) (suc n) then suc n else po
 abbrev pub earlier_turn : ℕ → ℕ
 earlier_turn turn = power_within (turn - 1)
 
-abbrev pub is_repeat : Snapshot → Option Snapshot → Bool
-is_repeat now None = false
-is_repeat now (Some earlier) = same_snapshot earlier now
+abbrev pub is_repeat : {S : Type 0} → System S → Snapshot S → Option (Snapshot S) → Bool
+is_repeat system now None = false
+is_repeat system now (Some earlier) = same_snapshot system earlier now
 
 -- the test after turn `turn`, from the snapshots after turns 0, 1 and so on before it; the first turn has none
-unfoldable pub repeats : List Snapshot → Snapshot → Bool
-repeats past now =
-    nat_lt 1 (length past) && is_repeat now (slice_get past (earlier_turn (length past)))
+unfoldable pub repeats : {S : Type 0} → System S → List (Snapshot S) → Snapshot S → Bool
+repeats system past now =
+    nat_lt 1 (length past) && is_repeat system now (slice_get past (earlier_turn (length past)))

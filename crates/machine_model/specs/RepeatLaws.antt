@@ -2,7 +2,8 @@
 use Rattle.std.specs.Prelude.{◌≡◌, ◌↔◌, ℕ, ◌*◌, ◌^◌, ◌<◌, ◌≤◌, true}
 use Rattle.machine_model.specs.declared.state.State.{State}
 use Rattle.machine_model.specs.Policy.{Policy}
-use Rattle.machine_model.specs.Repeat.{earlier_turn, same_policy, same_state, without_output}
+use Rattle.machine_model.specs.Repeat.{earlier_turn, same_policy}
+use Rattle.machine_model.specs.System.{same_state, without_output}
 
 -- the tests are those of equality
 abbrev pub SameStateIsEqual : Type 0

@@ -5,27 +5,28 @@ use Rattle.machine_model.specs.declared.run.Run.{Run}
 use Rattle.machine_model.specs.Repeat.{Snapshot, earlier_turn, repeats, snapshot}
 use Rattle.machine_model.specs.Run.{Advance, Course, advanced, begun, told}
 use Rattle.machine_model.specs.Run.Advance.{Onward, Over}
-use Rattle.machine_model.specs.Setting.{Setting}
+use Rattle.machine_model.specs.System.{System}
 
 -- after a turn the run ends where the turn repeats an earlier one
-abbrev pub tested_after : (List Snapshot → Course → Run) → List Snapshot → Advance → Run
-tested_after go past (Over course outcome) = told course outcome
-tested_after go past (Onward course) =
+abbrev pub tested_after : {S : Type 0} → System S → (List (Snapshot S) → Course S → Run) → List (Snapshot S) →
+    Advance S → Run
+tested_after system go past (Over course outcome) = told system course outcome
+tested_after system go past (Onward course) =
     let now = snapshot course in
-    if repeats past now then told course (outcomes.Repeats (length past) (earlier_turn (length past)))
+    if repeats system past now then told system course (outcomes.Repeats (length past) (earlier_turn (length past)))
     else go (past ++ now ∷ []) course
 
 -- the run from here on, of at most `most` turns, with the snapshots after all turns so far, the start included
-unfoldable pub tested_from : ℕ → Setting → List ℕ → List Snapshot → Course → Run
-tested_from zero setting listed past course = told course outcomes.Spent
-tested_from (suc most) setting listed past course =
-    tested_after (tested_from most setting listed) past (advanced setting listed course)
+unfoldable pub tested_from : {S : Type 0} → ℕ → System S → List ℕ → List (Snapshot S) → Course S → Run
+tested_from zero system listed past course = told system course outcomes.Spent
+tested_from (suc most) system listed past course =
+    tested_after system (tested_from most system listed) past (advanced system listed course)
 
 -- each turn costs at least 1, or is cut
-abbrev pub tested_on : Setting → List ℕ → List Snapshot → Course → Run
-tested_on setting listed past course = tested_from (course.left + 1) setting listed past course
+abbrev pub tested_on : {S : Type 0} → System S → List ℕ → List (Snapshot S) → Course S → Run
+tested_on system listed past course = tested_from (course.left + 1) system listed past course
 
 -- the run from the start that follows a list of turns within a budget of steps
-unfoldable pub tested_run : Setting → List ℕ → ℕ → Run
-tested_run setting listed steps =
-    let start = begun setting steps in tested_on setting listed (snapshot start ∷ []) start
+unfoldable pub tested_run : {S : Type 0} → System S → List ℕ → ℕ → Run
+tested_run system listed steps =
+    let start = begun system steps in tested_on system listed (snapshot start ∷ []) start

@@ -17,23 +17,33 @@ ghost use Rattle.machine_model.specs.PolicyLaws.{ChoiceIsEnabled, ChoiceIsLast, 
 ghost use Rattle.machine_model.specs.RaceExample.{both_turns, first_turns, leaving_alternate, ordered_alternate, other_order, printed_byte, prints, recorded_order, turned_by_numbers, turned_round, up_to_join};
 ghost use Rattle.machine_model.specs.RepeatLaws.{EarlierTurnIsPower, SamePolicyIsEqual, SameStateIsEqual};
 ghost use Rattle.machine_model.specs.ReplayLaws.{TurnsGiveTheRun};
+ghost use Rattle.machine_model.specs.Setting.{Setting};
+ghost use Rattle.machine_model.specs.System.{machine_of};
+ghost use Rattle.machine_model.specs.SystemLaws.{IsSystem};
 ghost use Rattle.machine_model.specs.declared.run.Outcome.TheVariants.{Exit, Spent};
 ghost use Rattle.machine_model.specs.declared.run.Reason.TheVariants.{Ended, Stuck};
+
+/// A machine is a system as the laws of runs, holds and jobs want it: the threads that may take a turn rise, a turn
+/// is paid from what is left or cut, more steps change nothing of one that was not cut, and a thread that waits to do
+/// an access is left so by the turns of the others.
+pub fn machine_is_system()
+    ensures { (setting : Setting) → IsSystem (machine_of setting) }
+{}
 
 /// The bounds by which turns and runs are defined are no part of their meaning.
 pub fn bounds_have_no_meaning()
     ensures turn { TurnNeedsNoMore }
-    ensures run { RunNeedsNoMore }
+    ensures run { (setting : Setting) → RunNeedsNoMore (machine_of setting) }
 {}
 
 /// A budget bounds what a run leaves.
 pub fn run_is_within_budget()
-    ensures { RunIsWithinBudget }
+    ensures { (setting : Setting) → RunIsWithinBudget (machine_of setting) }
 {}
 
 /// A run that was not spent is the run of every larger budget.
 pub fn larger_budget_keeps_run()
-    ensures { LargerBudgetKeepsRun }
+    ensures { (setting : Setting) → LargerBudgetKeepsRun (machine_of setting) }
 {}
 
 /// The chooser picks an enabled thread that it may choose wherever there is one: the listed one where that is
@@ -57,13 +67,13 @@ pub fn repeat_test_is_equality()
 
 /// The moments of a run are its turns, and the repeat test changes nothing of a run in which no turn repeats.
 pub fn moments_are_turns()
-    ensures moments { MomentsAreTurns }
-    ensures unrepeated { UnrepeatedIsRun }
+    ensures moments { (setting : Setting) → MomentsAreTurns (machine_of setting) }
+    ensures unrepeated { (setting : Setting) → UnrepeatedIsRun (machine_of setting) }
 {}
 
 /// What a run prints can be replayed: its turns, recorded, give the same run again.
 pub fn turns_give_the_run()
-    ensures { TurnsGiveTheRun }
+    ensures { (setting : Setting) → TurnsGiveTheRun (machine_of setting) }
 {
     chooser_follows_the_list();
 }
@@ -72,8 +82,8 @@ pub fn turns_give_the_run()
 /// stuck where no other thread is enabled, has diverged where the second thread has ended, repeats where its last
 /// turn left what an earlier one left, and has ended where its last turn ended the process.
 pub fn hold_enforces_the_order()
-    ensures waits { HeldThreadWaits }
-    ensures causes { EndsHaveCauses }
+    ensures waits { (setting : Setting) → HeldThreadWaits (machine_of setting) }
+    ensures causes { (setting : Setting) → EndsHaveCauses (machine_of setting) }
 {}
 
 /// After a hold that is done the thread that was held is chosen, and does the first access, which the second one

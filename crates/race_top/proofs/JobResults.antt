@@ -8,6 +8,7 @@ use Rattle.machine_model.specs.declared.case.Case.{Case}
 use Rattle.machine_model.specs.declared.race.Race.{Race}
 use Rattle.machine_model.specs.declared.run.Reason.{Reason}
 use Rattle.machine_model.specs.declared.run.Run.{Run}
+use Rattle.machine_model.specs.declared.state.State.{State}
 use Rattle.machine_model.specs.Hold.{Held}
 use Rattle.machine_model.specs.Hold.Held.{Done, NotEnforced, Ran}
 use Rattle.machine_model.specs.Job.{Alternate, AlternateJob, HeldOn, HoldPoint, PrimaryJob, alternate_after, held_on, hold_point, point_in}
@@ -15,7 +16,7 @@ use Rattle.machine_model.specs.Job.Alternate.{Runs, Not, Absent}
 use Rattle.machine_model.specs.Moment.{Moment, access_at}
 use Rattle.machine_model.specs.Primary.{setting_of}
 use Rattle.machine_model.specs.Reach.{Reaches, from_first, primary_moments, reaches_after, reaches_from}
-use Rattle.machine_model.specs.Setting.{Setting}
+use Rattle.machine_model.specs.System.{System, machine_of}
 use Rattle.race_verdict.specs.declared.result.JobKind.{JobKind}
 use Rattle.race_verdict.specs.declared.result.JobKind.TheVariants as kinds
 use Rattle.race_verdict.specs.declared.result.JobResult.{JobResult}
@@ -35,45 +36,47 @@ of-two one other found is = go is.0 is.1 is.2
     go (suc (suc place)) within same = absurd (omega arith)
 
 -- a run that reaches the race has a hold point
-point-after : (setting : Setting) (race : Race) (moments later : List Moment) (moment : Moment) (first : Option Access) →
-    access_at setting moment ≡ first → reaches_after setting race later first ≡ true →
-    point_in setting moments (moment ∷ later) ≢ None
-point-after setting race moments later moment None is reaches none = let h : ⊥ = cc in h
-point-after setting race moments later moment (Some first) is reaches none = let h : ⊥ = cc in h
+point-after : {S : Type 0} (system : System S) (race : Race) (moments later : List (Moment S)) (moment : Moment S)
+    (first : Option Access) →
+    access_at system moment ≡ first → reaches_after system race later first ≡ true →
+    point_in system moments (moment ∷ later) ≢ None
+point-after system race moments later moment None is reaches none = let h : ⊥ = cc in h
+point-after system race moments later moment (Some first) is reaches none = let h : ⊥ = cc in h
 
-point-from : (setting : Setting) (race : Race) (moments rest : List Moment) → reaches_from setting race rest ≡ true →
-    point_in setting moments rest ≢ None
-point-from setting race moments [] reaches none = let h : ⊥ = cc in h
-point-from setting race moments (moment ∷ later) reaches none =
-    point-after setting race moments later moment (access_at setting moment) refl reaches none
+point-from : {S : Type 0} (system : System S) (race : Race) (moments rest : List (Moment S)) →
+    reaches_from system race rest ≡ true →
+    point_in system moments rest ≢ None
+point-from system race moments [] reaches none = let h : ⊥ = cc in h
+point-from system race moments (moment ∷ later) reaches none =
+    point-after system race moments later moment (access_at system moment) refl reaches none
 
 point-reached : (code : Module) (case : Case) (race : Race) (input : Input) → Reaches code case race input ≡ true →
     hold_point code case race input ≢ None
 unfolding Reaches hold_point
 point-reached code case race input reaches =
-    point-from (setting_of code case input) race (primary_moments code case input)
+    point-from (machine_of (setting_of code case input)) race (primary_moments code case input)
     (from_first race (primary_moments code case input)) reaches
 
 -- and so its alternate is not absent
-after-held : (setting : Setting) (listed : List ℕ) (race : Race) (held : Held) →
-    alternate_after setting listed race (Some held) ≢ Absent
-after-held setting listed race (Done past course) absent = let h : ⊥ = cc in h
-after-held setting listed race (NotEnforced reason course) absent = let h : ⊥ = cc in h
-after-held setting listed race (Ran run) absent = let h : ⊥ = cc in h
+after-held : {S : Type 0} (system : System S) (listed : List ℕ) (race : Race) (held : Held S) →
+    alternate_after system listed race (Some held) ≢ Absent
+after-held system listed race (Done past course) absent = let h : ⊥ = cc in h
+after-held system listed race (NotEnforced reason course) absent = let h : ⊥ = cc in h
+after-held system listed race (Ran run) absent = let h : ⊥ = cc in h
 
 present : (code : Module) (case : Case) (race : Race) (input : Input) → Reaches code case race input ≡ true →
     AlternateJob code case race input ≢ Absent
 unfolding HeldOn
 present code case race input reaches = go (hold_point code case race input) refl
   where
-    setting : Setting
-    setting = setting_of code case input
+    system : System State
+    system = machine_of (setting_of code case input)
 
-    go : (point : Option HoldPoint) → hold_point code case race input ≡ point →
+    go : (point : Option (HoldPoint State)) → hold_point code case race input ≡ point →
         AlternateJob code case race input ≢ Absent
     go None is absent = point-reached code case race input reaches is
     go (Some point) is absent =
-        after-held setting case.turns race (held_on setting case.turns race point) (rw (reaches, is) at absent)
+        after-held system case.turns race (held_on system case.turns race point) (rw (reaches, is) at absent)
 
 kind-present : (alternate : Alternate) → alternate ≢ Absent → kind_of alternate ≢ kinds.Absent
 kind-present (Runs run) some absent = let h : ⊥ = cc in h

@@ -5,13 +5,11 @@ use Rattle.std.proofs.lemmas.List.{map_push}
 use Rattle.machine_model.specs.declared.run.Outcome.{Outcome}
 use Rattle.machine_model.specs.declared.run.TurnEnd.{TurnEnd}
 use Rattle.machine_model.specs.declared.run.TurnEnd.TheVariants as ends
-use Rattle.machine_model.specs.Enabled.{enabled}
 use Rattle.machine_model.specs.Moment.{Moment, moments_from, moments_of, moments_with, onward_or_none}
 use Rattle.machine_model.specs.Policy.{Choice, Policy, choose}
 use Rattle.machine_model.specs.Run.{Advance, Course, advanced, advanced_by, advanced_with, after_turn, begun}
 use Rattle.machine_model.specs.Run.Advance.{Onward, Over}
-use Rattle.machine_model.specs.Setting.{Setting}
-use Rattle.machine_model.specs.Turn.{turn}
+use Rattle.machine_model.specs.System.{System}
 use Rattle.race_top.specs.Seen.{threads_of}
 
 pub slice_get-drop : {X : Type 0} (xs : List X) (i j : ℕ) → slice_get (drop i xs) j ≡ slice_get xs (i + j)
@@ -52,7 +50,8 @@ pub length-left : {X : Type 0} (xs : List X) (i few : ℕ) (rest : List X) → d
 length-left xs i few rest is left = omega (arith, length-drop i xs, ap length is)
 
 -- the turns of one moment more
-pub threads_of-next : (start turns : List ℕ) (moments : List Moment) (i : ℕ) (moment : Moment) (rest : List Moment) →
+pub threads_of-next : {S : Type 0} (start turns : List ℕ) (moments : List (Moment S)) (i : ℕ) (moment : Moment S)
+    (rest : List (Moment S)) →
     drop i moments ≡ moment ∷ rest → turns ≡ start ++ threads_of (take i moments) →
     turns ++ moment.thread ∷ [] ≡ start ++ threads_of (take (i + 1) moments)
 threads_of-next start turns moments i moment rest is taken =
@@ -61,31 +60,33 @@ threads_of-next start turns moments i moment rest is taken =
     ∙ ap (λ back. start ++ back)
     (sym (map_push (λ one. one.thread) (take i moments) moment) ∙ ap threads_of (sym (take-next moments i moment rest is)))
 
-pub moments-begun : (most : ℕ) (setting : Setting) (listed : List ℕ) (steps : ℕ) (course : Course) →
-    most ≡ steps + 1 → course ≡ begun setting steps → moments_from most setting listed course ≡ moments_of setting listed steps
+pub moments-begun : {S : Type 0} (most : ℕ) (system : System S) (listed : List ℕ) (steps : ℕ) (course : Course S) →
+    most ≡ steps + 1 → course ≡ begun system steps → moments_from most system listed course ≡ moments_of system listed steps
 unfolding moments_of
-moments-begun most setting listed steps course all is = rw (all, is) refl
+moments-begun most system listed steps course all is = rw (all, is) refl
 
 -- a turn with which the run goes on
-pub record Turned (go : Course → List Moment) (setting : Setting) (course next : Course) (chosen : Option Choice) : Type 0 where
+pub record Turned {S : Type 0} (go : Course S → List (Moment S)) (system : System S) (course next : Course S) (chosen : Option Choice) : Type 0 where
   pub choice : Choice
   pub is : chosen ≡ Some choice
-  pub moments : moments_with go setting course chosen ≡ record { before = course; thread = choice.thread } ∷ go next
+  pub moments : moments_with go system course chosen ≡ record { before = course; thread = choice.thread } ∷ go next
   pub turns : next.turns ≡ course.turns ++ choice.thread ∷ []
   pub policy : next.policy ≡ choice.next
 
-advanced_by-onward : (thread : ℕ) (course next : Course) (end : TurnEnd) → advanced_by thread course end ≡ Onward next →
+advanced_by-onward : {S : Type 0} (thread : ℕ) (course next : Course S) (end : TurnEnd) →
+    advanced_by thread course end ≡ Onward next →
     course ≡ next
 advanced_by-onward thread course next ends.Going is = cc
 advanced_by-onward thread course next (ends.Exit status) is = absurd (let h : ⊥ = cc in h)
 advanced_by-onward thread course next (ends.Trap trap site) is = absurd (let h : ⊥ = cc in h)
 advanced_by-onward thread course next ends.Spent is = absurd (let h : ⊥ = cc in h)
 
-turned : (go : Course → List Moment) (setting : Setting) (course next : Course) (chosen : Option Choice) →
-    advanced_with setting course chosen ≡ Onward next → Turned go setting course next chosen
-turned go setting course next None is = absurd (let h : ⊥ = cc in h)
-turned go setting course next (Some choice) is =
-    let done = turn setting course.state choice.thread course.left in
+turned : {S : Type 0} (go : Course S → List (Moment S)) (system : System S) (course next : Course S)
+    (chosen : Option Choice) →
+    advanced_with system course chosen ≡ Onward next → Turned go system course next chosen
+turned go system course next None is = absurd (let h : ⊥ = cc in h)
+turned go system course next (Some choice) is =
+    let done = system.turn course.state choice.thread course.left in
     let same = advanced_by-onward choice.thread (after_turn course choice done) next done.end is in
     record {
       choice = choice;
@@ -96,22 +97,23 @@ turned go setting course next (Some choice) is =
     }
 
 -- the moments from a course on are that of its next turn and those from there on
-pub record Goes (rest most : ℕ) (setting : Setting) (listed : List ℕ) (course next : Course) : Type 0 where
+pub record Goes {S : Type 0} (rest most : ℕ) (system : System S) (listed : List ℕ) (course next : Course S) : Type 0 where
   pub choice : Choice
-  pub is : choose listed course.policy (enabled setting course.state) ≡ Some choice
-  pub moments : moments_from most setting listed course
-      ≡ record { before = course; thread = choice.thread } ∷ moments_from rest setting listed next
+  pub is : choose listed course.policy (system.enabled course.state) ≡ Some choice
+  pub moments : moments_from most system listed course
+      ≡ record { before = course; thread = choice.thread } ∷ moments_from rest system listed next
   pub turns : next.turns ≡ course.turns ++ choice.thread ∷ []
   pub policy : next.policy ≡ choice.next
 
-pub moments-onward : (most rest : ℕ) (setting : Setting) (listed : List ℕ) (course next : Course) → most ≡ rest + 1 →
-    advanced setting listed course ≡ Onward next → Goes rest most setting listed course next
+pub moments-onward : {S : Type 0} (most rest : ℕ) (system : System S) (listed : List ℕ) (course next : Course S) →
+    most ≡ rest + 1 →
+    advanced system listed course ≡ Onward next → Goes rest most system listed course next
 unfolding moments_from advanced
-moments-onward zero rest setting listed course next count is = absurd (omega arith)
-moments-onward (suc most) rest setting listed course next count is =
+moments-onward zero rest system listed course next count is = absurd (omega arith)
+moments-onward (suc most) rest system listed course next count is =
     let same : rest ≡ most = omega arith in
-    let done = turned (moments_from most setting listed) setting course next
-    (choose listed course.policy (enabled setting course.state)) is in
+    let done = turned (moments_from most system listed) system course next
+    (choose listed course.policy (system.enabled course.state)) is in
     record {
       choice = done.choice;
       is = done.is;
@@ -121,66 +123,72 @@ moments-onward (suc most) rest setting listed course next count is =
     }
 
 -- the last turn is the last moment
-over : (go : Course → List Moment) (setting : Setting) (course last : Course) (outcome : Outcome) (chosen : Option Choice) →
-    advanced_with setting course chosen ≡ Over last outcome → length (moments_with go setting course chosen) ≤ 1
-over go setting course last outcome None is = omega arith
-over go setting course last outcome (Some choice) is = rw is (omega arith)
+over : {S : Type 0} (go : Course S → List (Moment S)) (system : System S) (course last : Course S)
+    (outcome : Outcome) (chosen : Option Choice) →
+    advanced_with system course chosen ≡ Over last outcome → length (moments_with go system course chosen) ≤ 1
+over go system course last outcome None is = omega arith
+over go system course last outcome (Some choice) is = rw is (omega arith)
 
-pub moments-over : (most : ℕ) (setting : Setting) (listed : List ℕ) (course last : Course) (outcome : Outcome) →
-    advanced setting listed course ≡ Over last outcome → length (moments_from most setting listed course) ≤ 1
+pub moments-over : {S : Type 0} (most : ℕ) (system : System S) (listed : List ℕ) (course last : Course S)
+    (outcome : Outcome) →
+    advanced system listed course ≡ Over last outcome → length (moments_from most system listed course) ≤ 1
 unfolding moments_from advanced
-moments-over zero setting listed course last outcome is = omega arith
-moments-over (suc most) setting listed course last outcome is =
-    over (moments_from most setting listed) setting course last outcome
-    (choose listed course.policy (enabled setting course.state)) is
+moments-over zero system listed course last outcome is = omega arith
+moments-over (suc most) system listed course last outcome is =
+    over (moments_from most system listed) system course last outcome
+    (choose listed course.policy (system.enabled course.state)) is
 
-onward-few : (most : ℕ) (go : Course → List Moment) (next : Advance) → ((course : Course) → length (go course) ≤ most) →
+onward-few : {S : Type 0} (most : ℕ) (go : Course S → List (Moment S)) (next : Advance S) →
+    ((course : Course S) → length (go course) ≤ most) →
     length (onward_or_none go next) ≤ most
 onward-few most go (Onward course) few = few course
 onward-few most go (Over course outcome) few = omega arith
 
-with-few : (most : ℕ) (go : Course → List Moment) (setting : Setting) (course : Course) (chosen : Option Choice) →
-    ((course : Course) → length (go course) ≤ most) → length (moments_with go setting course chosen) ≤ suc most
-with-few most go setting course None few = omega arith
-with-few most go setting course (Some choice) few =
-    let after = onward-few most go (advanced_with setting course (Some choice)) few in omega arith
+with-few : {S : Type 0} (most : ℕ) (go : Course S → List (Moment S)) (system : System S) (course : Course S)
+    (chosen : Option Choice) →
+    ((course : Course S) → length (go course) ≤ most) → length (moments_with go system course chosen) ≤ suc most
+with-few most go system course None few = omega arith
+with-few most go system course (Some choice) few =
+    let after = onward-few most go (advanced_with system course (Some choice)) few in omega arith
 
-pub moments-few : (most : ℕ) (setting : Setting) (listed : List ℕ) (course : Course) →
-    length (moments_from most setting listed course) ≤ most
+pub moments-few : {S : Type 0} (most : ℕ) (system : System S) (listed : List ℕ) (course : Course S) →
+    length (moments_from most system listed course) ≤ most
 unfolding moments_from
-moments-few zero setting listed course = omega arith
-moments-few (suc most) setting listed course =
-    with-few most (moments_from most setting listed) setting course
-    (choose listed course.policy (enabled setting course.state)) (moments-few most setting listed)
+moments-few zero system listed course = omega arith
+moments-few (suc most) system listed course =
+    with-few most (moments_from most system listed) system course
+    (choose listed course.policy (system.enabled course.state)) (moments-few most system listed)
 
 -- where a thread is chosen, its turn is the first moment
-pub moments-chosen : (most rest : ℕ) (setting : Setting) (listed : List ℕ) (course : Course) (choice : Choice) →
-    most ≡ rest + 1 → choose listed course.policy (enabled setting course.state) ≡ Some choice →
-    moments_from most setting listed course
+pub moments-chosen : {S : Type 0} (most rest : ℕ) (system : System S) (listed : List ℕ) (course : Course S)
+    (choice : Choice) →
+    most ≡ rest + 1 → choose listed course.policy (system.enabled course.state) ≡ Some choice →
+    moments_from most system listed course
     ≡ record { before = course; thread = choice.thread }
-    ∷ onward_or_none (moments_from rest setting listed) (advanced_with setting course (Some choice))
+    ∷ onward_or_none (moments_from rest system listed) (advanced_with system course (Some choice))
 unfolding moments_from
-moments-chosen zero rest setting listed course choice count is = absurd (omega arith)
-moments-chosen (suc most) rest setting listed course choice count is =
+moments-chosen zero rest system listed course choice count is = absurd (omega arith)
+moments-chosen (suc most) rest system listed course choice count is =
     let same : rest ≡ most = omega arith in rw (same, is) refl
 
-pub moments-none : (most : ℕ) (setting : Setting) (listed : List ℕ) (course : Course) →
-    choose listed course.policy (enabled setting course.state) ≡ None → moments_from most setting listed course ≡ []
+pub moments-none : {S : Type 0} (most : ℕ) (system : System S) (listed : List ℕ) (course : Course S) →
+    choose listed course.policy (system.enabled course.state) ≡ None → moments_from most system listed course ≡ []
 unfolding moments_from
-moments-none zero setting listed course is = refl
-moments-none (suc most) setting listed course is = rw is refl
+moments-none zero system listed course is = refl
+moments-none (suc most) system listed course is = rw is refl
 
 -- a turn that is chosen is the same whatever the chooser is afterwards
-pub moments-chooser : (go : Course → List Moment) (setting : Setting) (before after : Course) (policy : Policy) (choice : Choice) →
+pub moments-chooser : {S : Type 0} (go : Course S → List (Moment S)) (system : System S) (before after : Course S)
+    (policy : Policy) (choice : Choice) →
     after ≡ record before { policy = policy } →
-    ◌≡◌ {A = List Moment}
-    (record { before = before; thread = choice.thread } ∷ onward_or_none go (advanced_with setting before (Some choice)))
+    ◌≡◌ {A = List (Moment S)}
+    (record { before = before; thread = choice.thread } ∷ onward_or_none go (advanced_with system before (Some choice)))
     (record { before = record after { policy = before.policy }; thread = choice.thread }
-    ∷ onward_or_none go (advanced_with setting after (Some choice)))
-moments-chooser go setting before after policy choice same = rw same refl
+    ∷ onward_or_none go (advanced_with system after (Some choice)))
+moments-chooser go system before after policy choice same = rw same refl
 
-pub moments-spent : (most : ℕ) (setting : Setting) (listed : List ℕ) (course : Course) → most ≡ 0 →
-    moments_from most setting listed course ≡ []
+pub moments-spent : {S : Type 0} (most : ℕ) (system : System S) (listed : List ℕ) (course : Course S) → most ≡ 0 →
+    moments_from most system listed course ≡ []
 unfolding moments_from
-moments-spent zero setting listed course none = refl
-moments-spent (suc most) setting listed course none = absurd (omega arith)
+moments-spent zero system listed course none = refl
+moments-spent (suc most) system listed course none = absurd (omega arith)

@@ -8,12 +8,10 @@ use Rattle.machine_model.specs.declared.run.Outcome.TheVariants as outcomes
 use Rattle.machine_model.specs.declared.run.Run.{Run}
 use Rattle.machine_model.specs.declared.run.TurnEnd.{TurnEnd}
 use Rattle.machine_model.specs.declared.run.TurnEnd.TheVariants as ends
-use Rattle.machine_model.specs.Enabled.{enabled}
 use Rattle.machine_model.specs.Policy.{Choice, choose}
 use Rattle.machine_model.specs.ReplayLaws.{course_after, onward_from}
 use Rattle.machine_model.specs.Run.{Course, advanced, advanced_by, advanced_with, after_turn, begun, onward_or_told, run_from, run_of}
-use Rattle.machine_model.specs.Setting.{Setting}
-use Rattle.machine_model.specs.Turn.{turn}
+use Rattle.machine_model.specs.System.{System}
 use Rattle.machine_model.proofs.Replays.{Chooser, Continues, IsAt, chosen-begins, follows-next, may-choose, mode-stays, next-in, run_from-begins, slice_get-after}
 use Rattle.race_top.specs.TraceReplay.{ReplayFault, fault_at_end, fault_from, first_other, replay_fault}
 use Rattle.race_top.specs.TraceReplay.ReplayFault.{TurnNotEnabled}
@@ -74,23 +72,24 @@ no_longer : (front : List ℕ) (thread : ℕ) (rest : List ℕ) → front ≡ fr
 no_longer front thread rest same = omega (arith, ap length same, length-append front (thread ∷ rest))
 
 -- the turn that is taken is the listed one where that is enabled
-here : Chooser → (go : Course → Run) (setting : Setting) (listed : List ℕ) (course : Course) (one : Option Choice)
+here : {S : Type 0} → Chooser → (go : Course S → Run) (system : System S) (listed : List ℕ) (course : Course S)
+    (one : Option Choice)
     (thread taken : ℕ) (listed_rest taken_rest : List ℕ) →
-    choose listed course.policy (enabled setting course.state) ≡ one →
+    choose listed course.policy (system.enabled course.state) ≡ one →
     IsAt course.policy (length course.turns) → Continues go →
     listed ≡ course.turns ++ thread ∷ listed_rest →
-    (onward_or_told go (advanced_with setting course one)).turns ≡ course.turns ++ taken ∷ taken_rest →
-    Contains (enabled setting course.state) thread → thread ≡ taken
-here laws go setting listed course None thread taken listed_rest taken_rest picked at continues listed_is taken_is among =
+    (onward_or_told system go (advanced_with system course one)).turns ≡ course.turns ++ taken ∷ taken_rest →
+    Contains (system.enabled course.state) thread → thread ≡ taken
+here laws go system listed course None thread taken listed_rest taken_rest picked at continues listed_is taken_is among =
     absurd (no_longer course.turns taken taken_rest taken_is)
-here laws go setting listed course (Some choice) thread taken listed_rest taken_rest picked at continues listed_is taken_is among =
-    let begins = chosen-begins go setting course choice continues in
+here laws go system listed course (Some choice) thread taken listed_rest taken_rest picked at continues listed_is taken_is among =
+    let begins = chosen-begins go system course choice continues in
     let first = next-in course.turns choice.thread _ begins.0 begins.1 in
-    let second : slice_get (onward_or_told go (advanced_with setting course (Some choice))).turns (length course.turns) ≡ Some taken =
+    let second : slice_get (onward_or_told system go (advanced_with system course (Some choice))).turns (length course.turns) ≡ Some taken =
     rw taken_is (slice_get-after course.turns taken taken_rest) in
     let next : slice_get listed course.policy.follow.position ≡ Some thread =
     rw (at.1, listed_is) (slice_get-after course.turns thread listed_rest) in
-    let picks = laws.is_listed listed course.policy (enabled setting course.state) choice thread (mode-stays course.policy at.0)
+    let picks = laws.is_listed listed course.policy (system.enabled course.state) choice thread (mode-stays course.policy at.0)
     (may-choose course.policy thread at.0) next among picked in
     let same : choice.thread ≡ taken = cc in
     sym picks.0 ∙ same
@@ -101,73 +100,75 @@ too_long front one first taken common rest same =
     omega (arith, ap length same, length-append front (one ∷ []), length-append front (first ∷ (common ++ taken ∷ rest)), length-append common (taken ∷ rest))
 
 -- a turn after which others follow is not the last
-by_end : (go : Course → Run) (after : Course → Course) (setting : Setting) (course next : Course) (end : TurnEnd)
+by_end : {S : Type 0} (go : Course S → Run) (after : Course S → Course S) (system : System S)
+    (course next : Course S) (end : TurnEnd)
     (thread taken one first : ℕ) (common taken_rest : List ℕ) → next.turns ≡ course.turns ++ one ∷ [] →
-    (onward_or_told go (advanced_by one next end)).turns ≡ course.turns ++ first ∷ (common ++ taken ∷ taken_rest) →
+    (onward_or_told system go (advanced_by one next end)).turns ≡ course.turns ++ first ∷ (common ++ taken ∷ taken_rest) →
     ((go next).turns ≡ course.turns ++ first ∷ (common ++ taken ∷ taken_rest) →
-    Contains (enabled setting (after next).state) thread → thread ≡ taken) →
-    Contains (enabled setting (onward_from after course (advanced_by one next end)).state) thread → thread ≡ taken
-by_end go after setting course next ends.Going thread taken one first common taken_rest turns is on = on is
-by_end go after setting course next (ends.Exit status) thread taken one first common taken_rest turns is on =
+    Contains (system.enabled (after next).state) thread → thread ≡ taken) →
+    Contains (system.enabled (onward_from after course (advanced_by one next end)).state) thread → thread ≡ taken
+by_end go after system course next ends.Going thread taken one first common taken_rest turns is on = on is
+by_end go after system course next (ends.Exit status) thread taken one first common taken_rest turns is on =
     absurd (too_long course.turns one first taken common taken_rest (sym turns ∙ is))
-by_end go after setting course next (ends.Trap trap site) thread taken one first common taken_rest turns is on =
+by_end go after system course next (ends.Trap trap site) thread taken one first common taken_rest turns is on =
     absurd (too_long course.turns one first taken common taken_rest (sym turns ∙ is))
-by_end go after setting course next ends.Spent thread taken one first common taken_rest turns is on =
+by_end go after system course next ends.Spent thread taken one first common taken_rest turns is on =
     absurd (too_long course.turns one first taken common taken_rest (sym turns ∙ is))
 
 -- what holds after a listed turn that was taken holds before it
-further : Chooser → (go : Course → Run) (after : Course → Course) (setting : Setting) (listed : List ℕ) (course : Course)
+further : {S : Type 0} → Chooser → (go : Course S → Run) (after : Course S → Course S) (system : System S)
+    (listed : List ℕ) (course : Course S)
     (one : Option Choice) (thread taken first : ℕ) (common listed_rest taken_rest : List ℕ) →
-    choose listed course.policy (enabled setting course.state) ≡ one →
+    choose listed course.policy (system.enabled course.state) ≡ one →
     IsAt course.policy (length course.turns) → Continues go →
     listed ≡ course.turns ++ first ∷ (common ++ thread ∷ listed_rest) →
-    (onward_or_told go (advanced_with setting course one)).turns ≡ course.turns ++ first ∷ (common ++ taken ∷ taken_rest) →
-    ((next : Course) → IsAt next.policy (length next.turns) →
+    (onward_or_told system go (advanced_with system course one)).turns ≡ course.turns ++ first ∷ (common ++ taken ∷ taken_rest) →
+    ((next : Course S) → IsAt next.policy (length next.turns) →
     listed ≡ next.turns ++ (common ++ thread ∷ listed_rest) → (go next).turns ≡ next.turns ++ (common ++ taken ∷ taken_rest) →
-    Contains (enabled setting (after next).state) thread → thread ≡ taken) →
-    Contains (enabled setting (onward_from after course (advanced_with setting course one)).state) thread → thread ≡ taken
-further laws go after setting listed course None thread taken first common listed_rest taken_rest picked at continues listed_is taken_is on =
+    Contains (system.enabled (after next).state) thread → thread ≡ taken) →
+    Contains (system.enabled (onward_from after course (advanced_with system course one)).state) thread → thread ≡ taken
+further laws go after system listed course None thread taken first common listed_rest taken_rest picked at continues listed_is taken_is on =
     absurd (no_longer course.turns first (common ++ taken ∷ taken_rest) taken_is)
-further laws go after setting listed course (Some choice) thread taken first common listed_rest taken_rest picked at continues listed_is taken_is on =
-    let begins = chosen-begins go setting course choice continues in
+further laws go after system listed course (Some choice) thread taken first common listed_rest taken_rest picked at continues listed_is taken_is on =
+    let begins = chosen-begins go system course choice continues in
     let chosen_one = next-in course.turns choice.thread _ begins.0 begins.1 in
-    let first_one : slice_get (onward_or_told go (advanced_with setting course (Some choice))).turns (length course.turns) ≡ Some first =
+    let first_one : slice_get (onward_or_told system go (advanced_with system course (Some choice))).turns (length course.turns) ≡ Some first =
     rw taken_is (slice_get-after course.turns first (common ++ taken ∷ taken_rest)) in
     let same : first ≡ choice.thread = cc in
     let next_listed : slice_get listed course.policy.follow.position ≡ Some choice.thread =
     rw (at.1, listed_is, same) (slice_get-after course.turns choice.thread (common ++ thread ∷ listed_rest)) in
-    let among = (laws.is_enabled listed course.policy (enabled setting course.state) choice picked).0 in
-    let picks = laws.is_listed listed course.policy (enabled setting course.state) choice choice.thread (mode-stays course.policy at.0)
+    let among = (laws.is_enabled listed course.policy (system.enabled course.state) choice picked).0 in
+    let picks = laws.is_listed listed course.policy (system.enabled course.state) choice choice.thread (mode-stays course.policy at.0)
     (may-choose course.policy choice.thread at.0) next_listed among picked in
-    let turned = turn setting course.state choice.thread course.left in
+    let turned = system.turn course.state choice.thread course.left in
     let moved = λ (rest : List ℕ). ap (λ thread. course.turns ++ thread ∷ rest) same ∙ sym (append_assoc course.turns (choice.thread ∷ []) rest) in
-    by_end go after setting course (after_turn course choice turned) turned.end thread taken choice.thread first common taken_rest
+    by_end go after system course (after_turn course choice turned) turned.end thread taken choice.thread first common taken_rest
     refl taken_is
     (λ is. on (after_turn course choice turned) (
-      follows-next laws listed course.policy (enabled setting course.state) choice picked at.0,
+      follows-next laws listed course.policy (system.enabled course.state) choice picked at.0,
       omega (arith, picks.1, at.1, length-append course.turns (choice.thread ∷ [])),
     )
     (listed_is ∙ moved (common ++ thread ∷ listed_rest)) (is ∙ moved (common ++ taken ∷ taken_rest)))
 
-walk : Chooser → (common : List ℕ) (most : ℕ) (setting : Setting) (listed : List ℕ) (thread taken : ℕ)
-    (listed_rest taken_rest : List ℕ) (course : Course) → IsAt course.policy (length course.turns) →
+walk : {S : Type 0} → Chooser → (common : List ℕ) (most : ℕ) (system : System S) (listed : List ℕ) (thread taken : ℕ)
+    (listed_rest taken_rest : List ℕ) (course : Course S) → IsAt course.policy (length course.turns) →
     listed ≡ course.turns ++ (common ++ thread ∷ listed_rest) →
-    (run_from most setting listed course).turns ≡ course.turns ++ (common ++ taken ∷ taken_rest) →
-    Contains (enabled setting (course_after (length common) setting listed course).state) thread → thread ≡ taken
+    (run_from most system listed course).turns ≡ course.turns ++ (common ++ taken ∷ taken_rest) →
+    Contains (system.enabled (course_after (length common) system listed course).state) thread → thread ≡ taken
 unfolding run_from course_after advanced
-walk laws [] zero setting listed thread taken listed_rest taken_rest course at listed_is taken_is among =
+walk laws [] zero system listed thread taken listed_rest taken_rest course at listed_is taken_is among =
     absurd (no_longer course.turns taken taken_rest taken_is)
-walk laws (first ∷ common) zero setting listed thread taken listed_rest taken_rest course at listed_is taken_is among =
+walk laws (first ∷ common) zero system listed thread taken listed_rest taken_rest course at listed_is taken_is among =
     absurd (no_longer course.turns first (common ++ taken ∷ taken_rest) taken_is)
-walk laws [] (suc most) setting listed thread taken listed_rest taken_rest course at listed_is taken_is among =
-    here laws (run_from most setting listed) setting listed course
-    (choose listed course.policy (enabled setting course.state)) thread taken listed_rest taken_rest refl at
-    (run_from-begins most setting listed) listed_is taken_is among
-walk laws (first ∷ common) (suc most) setting listed thread taken listed_rest taken_rest course at listed_is taken_is among =
-    further laws (run_from most setting listed) (course_after (length common) setting listed) setting listed course
-    (choose listed course.policy (enabled setting course.state)) thread taken first common listed_rest taken_rest refl at
-    (run_from-begins most setting listed) listed_is taken_is
-    (walk laws common most setting listed thread taken listed_rest taken_rest) among
+walk laws [] (suc most) system listed thread taken listed_rest taken_rest course at listed_is taken_is among =
+    here laws (run_from most system listed) system listed course
+    (choose listed course.policy (system.enabled course.state)) thread taken listed_rest taken_rest refl at
+    (run_from-begins most system listed) listed_is taken_is among
+walk laws (first ∷ common) (suc most) system listed thread taken listed_rest taken_rest course at listed_is taken_is among =
+    further laws (run_from most system listed) (course_after (length common) system listed) system listed course
+    (choose listed course.policy (system.enabled course.state)) thread taken first common listed_rest taken_rest refl at
+    (run_from-begins most system listed) listed_is taken_is
+    (walk laws common most system listed thread taken listed_rest taken_rest) among
 
 found : (past : Bool) (value place : ℕ) → cond past (Some value) None ≡ Some place → (past ≡ true) × (value ≡ place)
 found true value place is = (refl, cc)
@@ -185,41 +186,43 @@ not-at_end listed taken turn outcomes.Deadlock = other-fault _ _ _ (λ same. cc)
 not-at_end listed taken turn (outcomes.Repeats later earlier) = other-fault _ _ _ (λ same. cc)
 not-at_end listed taken turn outcomes.Spent = other-fault _ _ _ (λ same. cc)
 
-refused-at : Chooser → (most : ℕ) (setting : Setting) (listed : List ℕ) (steps before thread : ℕ) →
-    Parts listed (run_from most setting listed (begun setting steps)).turns before → slice_get listed before ≡ Some thread →
-    Contains (enabled setting (course_after before setting listed (begun setting steps)).state) thread → ⊥
-refused-at laws most setting listed steps before thread apart next among =
+refused-at : {S : Type 0} → Chooser → (most : ℕ) (system : System S) (listed : List ℕ) (steps before thread : ℕ) →
+    Parts listed (run_from most system listed (begun system steps)).turns before →
+    slice_get listed before ≡ Some thread →
+    Contains (system.enabled (course_after before system listed (begun system steps)).state) thread → ⊥
+refused-at laws most system listed steps before thread apart next among =
     let listed_one : slice_get listed before ≡ Some apart.thread =
     ap (λ whole. slice_get whole before) apart.listed_is
     ∙ ap (slice_get (apart.front ++ apart.thread ∷ apart.listed_rest)) (sym apart.count)
     ∙ slice_get-after apart.front apart.thread apart.listed_rest in
     let same : thread ≡ apart.thread = cc in
     let At : ℕ → ℕ → Type 0 =
-    λ count one. Contains (enabled setting (course_after count setting listed (begun setting steps)).state) one in
+    λ count one. Contains (system.enabled (course_after count system listed (begun system steps)).state) one in
     apart.apart
-    (walk laws apart.front most setting listed apart.thread apart.taken apart.listed_rest apart.taken_rest
-    (begun setting steps) (refl, refl) apart.listed_is apart.taken_is
+    (walk laws apart.front most system listed apart.thread apart.taken apart.listed_rest apart.taken_rest
+    (begun system steps) (refl, refl) apart.listed_is apart.taken_is
     (subst (λ (count : ℕ). At count apart.thread) (sym apart.count) (subst (At before) same among)))
 
-refused-by : Chooser → (most : ℕ) (setting : Setting) (listed : List ℕ) (steps before thread : ℕ) (other : Option ℕ) →
-    first_other listed (run_from most setting listed (begun setting steps)).turns ≡ other →
-    fault_from listed (run_from most setting listed (begun setting steps)) other ≡ Some (TurnNotEnabled (before + 1)) →
+refused-by : {S : Type 0} → Chooser → (most : ℕ) (system : System S) (listed : List ℕ) (steps before thread : ℕ)
+    (other : Option ℕ) →
+    first_other listed (run_from most system listed (begun system steps)).turns ≡ other →
+    fault_from listed (run_from most system listed (begun system steps)) other ≡ Some (TurnNotEnabled (before + 1)) →
     slice_get listed before ≡ Some thread →
-    Contains (enabled setting (course_after before setting listed (begun setting steps)).state) thread → ⊥
-refused-by laws most setting listed steps before thread None is refused next among =
-    let run = run_from most setting listed (begun setting steps) in
+    Contains (system.enabled (course_after before system listed (begun system steps)).state) thread → ⊥
+refused-by laws most system listed steps before thread None is refused next among =
+    let run = run_from most system listed (begun system steps) in
     not-at_end listed (length run.turns) (before + 1) run.outcome refused
-refused-by laws most setting listed steps before thread (Some place) is refused next among =
-    let turns = (run_from most setting listed (begun setting steps)).turns in
+refused-by laws most system listed steps before thread (Some place) is refused next among =
+    let turns = (run_from most system listed (begun system steps)).turns in
     let injected : place + 1 ≡ before + 1 = cc in
     let at = found _ _ place is in
-    refused-at laws most setting listed steps before thread
+    refused-at laws most system listed steps before thread
     (subst (Parts listed turns) (at.1 ∙ omega arith) (parts listed turns (ltb-true _ _ at.0))) next among
 
-pub refused-not_enabled : Chooser → (setting : Setting) (listed : List ℕ) (steps before thread : ℕ) →
-    replay_fault listed (run_of setting listed steps) ≡ Some (TurnNotEnabled (before + 1)) →
+pub refused-not_enabled : {S : Type 0} → Chooser → (system : System S) (listed : List ℕ) (steps before thread : ℕ) →
+    replay_fault listed (run_of system listed steps) ≡ Some (TurnNotEnabled (before + 1)) →
     slice_get listed before ≡ Some thread →
-    ¬ Contains (enabled setting (course_after before setting listed (begun setting steps)).state) thread
+    ¬ Contains (system.enabled (course_after before system listed (begun system steps)).state) thread
 unfolding replay_fault run_of
-refused-not_enabled laws setting listed steps before thread refused next =
-    refused-by laws (steps + 1) setting listed steps before thread _ refl refused next
+refused-not_enabled laws system listed steps before thread refused next =
+    refused-by laws (steps + 1) system listed steps before thread _ refl refused next

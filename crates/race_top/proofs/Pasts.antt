@@ -2,22 +2,26 @@
 use Rattle.std.proofs.Common.{◌≡◌, ℕ, zero, suc, ◌+◌, ◌-◌, ◌*◌, ◌<◌, ◌≤◌, true, false, nat_lt, leb, List, [], ◌∷◌, ◌++◌, length, Some, refl, sym, ap, ◌∙◌, add-one, arith, length-append}
 use Rattle.std.specs.Prelude.{slice_get}
 use Rattle.std.proofs.lemmas.Bool.{le-leb, lt-leb, lt-ltb}
+use Rattle.machine_model.specs.declared.state.State.{State}
 use Rattle.machine_model.specs.Repeat.{Snapshot, power_within, repeats, same_snapshot}
+use Rattle.machine_model.specs.System.{System}
 use Rattle.race_top.specs.declared.order_enforcer.past.Past.{Past}
 use Rattle.race_top.specs.Past.{Recalls, snapshot_of}
 
-slice_get-last : (snapshots : List Snapshot) (now : Snapshot) → slice_get (snapshots ++ now ∷ []) (length snapshots) ≡ Some now
+slice_get-last : (snapshots : List (Snapshot State)) (now : Snapshot State) →
+    slice_get (snapshots ++ now ∷ []) (length snapshots) ≡ Some now
 slice_get-last [] now = refl
 slice_get-last (first ∷ rest) now = slice_get-last rest now
 
-slice_get-front : (snapshots later : List Snapshot) (at : ℕ) (kept : Snapshot) →
+slice_get-front : (snapshots later : List (Snapshot State)) (at : ℕ) (kept : Snapshot State) →
     slice_get snapshots at ≡ Some kept → slice_get (snapshots ++ later) at ≡ Some kept
 slice_get-front [] later at kept is = absurd (cc)
 slice_get-front (first ∷ rest) later zero kept is = is
 slice_get-front (first ∷ rest) later (suc at) kept is = slice_get-front rest later at kept is
 
 -- nothing but the start
-pub recalls-start : (start : Snapshot) (past : Past) → past.turns ≡ 0 → past.earlier ≡ 0 → Recalls (start ∷ []) past
+pub recalls-start : (start : Snapshot State) (past : Past) → past.turns ≡ 0 → past.earlier ≡ 0 →
+    Recalls (start ∷ []) past
 unfolding power_within
 recalls-start start past turns earlier = record {
   turns = omega arith;
@@ -44,7 +48,8 @@ power_within-some zero some = absurd (omega arith)
 power_within-some (suc turns) some = omega arith
 
 -- a turn that is a power of two is kept
-pub recalls-kept : (snapshots : List Snapshot) (now : Snapshot) (before after : Past) → Recalls snapshots before →
+pub recalls-kept : (snapshots : List (Snapshot State)) (now : Snapshot State) (before after : Past) →
+    Recalls snapshots before →
     after.turns ≡ before.turns + 1 → 2 * before.earlier ≤ after.turns → after.earlier ≡ after.turns →
     snapshot_of after ≡ now → Recalls (snapshots ++ now ∷ []) after
 recalls-kept snapshots now before after recalls counted reached earlier is = record {
@@ -56,7 +61,8 @@ recalls-kept snapshots now before after recalls counted reached earlier is = rec
 }
 
 -- another turn is not
-pub recalls-passed : (snapshots : List Snapshot) (now : Snapshot) (before after : Past) → Recalls snapshots before →
+pub recalls-passed : (snapshots : List (Snapshot State)) (now : Snapshot State) (before after : Past) →
+    Recalls snapshots before →
     after.turns ≡ before.turns + 1 → after.turns < 2 * before.earlier → after.earlier ≡ before.earlier →
     snapshot_of after ≡ snapshot_of before → Recalls (snapshots ++ now ∷ []) after
 recalls-passed snapshots now before after recalls counted beyond earlier is = record {
@@ -70,17 +76,19 @@ recalls-passed snapshots now before after recalls counted beyond earlier is = re
 }
 
 -- after the first turn nothing is compared
-pub repeats-none : (snapshots : List Snapshot) (past : Past) (now : Snapshot) → Recalls snapshots past →
-    past.turns ≡ 0 → repeats snapshots now ≡ false
+pub repeats-none : (system : System State) (snapshots : List (Snapshot State)) (past : Past)
+    (now : Snapshot State) → Recalls snapshots past →
+    past.turns ≡ 0 → repeats system snapshots now ≡ false
 unfolding repeats
-repeats-none snapshots past now recalls none =
+repeats-none system snapshots past now recalls none =
     let one : length snapshots ≡ 1 = omega (arith, recalls.turns) in rw one refl
 
 -- after another turn it is what is kept
-pub repeats-kept : (snapshots : List Snapshot) (past : Past) (now : Snapshot) → Recalls snapshots past →
-    0 < past.turns → repeats snapshots now ≡ same_snapshot (snapshot_of past) now
+pub repeats-kept : (system : System State) (snapshots : List (Snapshot State)) (past : Past)
+    (now : Snapshot State) → Recalls snapshots past →
+    0 < past.turns → repeats system snapshots now ≡ same_snapshot system (snapshot_of past) now
 unfolding repeats
-repeats-kept snapshots past now recalls some =
+repeats-kept system snapshots past now recalls some =
     let more : nat_lt 1 (length snapshots) ≡ true = lt-ltb _ _ (omega (arith, recalls.turns)) in
     let before : length snapshots - 1 ≡ past.turns = omega (arith, recalls.turns) in
     let earlier : power_within (length snapshots - 1) ≡ past.earlier = ap power_within before ∙ sym recalls.earlier in

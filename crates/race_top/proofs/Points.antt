@@ -6,12 +6,14 @@ use Rattle.ir_types.specs.declared.input.Input.{Input}
 use Rattle.ir_types.specs.declared.«module».Module.{Module}
 use Rattle.machine_model.specs.declared.case.Case.{Case}
 use Rattle.machine_model.specs.declared.race.Race.{Race}
+use Rattle.machine_model.specs.declared.state.State.{State}
 use Rattle.machine_model.specs.Job.{hold_point, point_at, point_in, snapshots}
 use Rattle.machine_model.specs.Moment.{Moment, access_at, from_turn}
 use Rattle.machine_model.specs.Policy.{Choice, Policy}
 use Rattle.machine_model.specs.Primary.{setting_of}
 use Rattle.machine_model.specs.Reach.{from_first, primary_moments}
 use Rattle.machine_model.specs.Repeat.{Snapshot, snapshot}
+use Rattle.machine_model.specs.System.{machine_of}
 use Rattle.concrete_machine.specs.declared.course.Course.{Course}
 use Rattle.concrete_machine.specs.Course.{IsOf}
 use Rattle.race_top.specs.declared.order_enforcer.past.Past.{Past}
@@ -20,17 +22,17 @@ use Rattle.race_top.specs.Past.{Recalls}
 use Rattle.race_top.proofs.Moments.{take-next}
 
 -- where no moment from the race's first access on is left, there is none
-pub point-none : (code : Module) (case : Case) (race : Race) (input : Input) (number : ℕ) (left : List Moment) →
+pub point-none : (code : Module) (case : Case) (race : Race) (input : Input) (number : ℕ) (left : List (Moment State)) →
     left ≡ [] → from_turn race.t1 number left ≡ from_first race (primary_moments code case input) →
     hold_point code case race input ≡ None
 unfolding hold_point
 point-none code case race input number left none from =
     let end : from_first race (primary_moments code case input) ≡ [] =
     sym from ∙ ap (from_turn race.t1 number) none in
-    ap (point_in (setting_of code case input) (primary_moments code case input)) end
+    ap (point_in (machine_of (setting_of code case input)) (primary_moments code case input)) end
 
 -- the snapshots of one moment more
-pub snapshots-next : (moments : List Moment) (i : ℕ) (moment : Moment) (rest : List Moment) →
+pub snapshots-next : (moments : List (Moment State)) (i : ℕ) (moment : Moment State) (rest : List (Moment State)) →
     drop i moments ≡ moment ∷ rest →
     snapshots (take (i + 1) moments) ≡ snapshots (take i moments) ++ snapshot moment.before ∷ []
 snapshots-next moments i moment rest is =
@@ -38,20 +40,21 @@ snapshots-next moments i moment rest is =
     ∙ map_push (λ one. snapshot one.before) (take i moments) moment
 
 -- where the next moment is the race's, its course is the hold point's
-pub point-here : (code : Module) (case : Case) (race : Race) (input : Input) (i : ℕ) (moment : Moment) (rest : List Moment) →
+pub point-here : (code : Module) (case : Case) (race : Race) (input : Input) (i : ℕ) (moment : Moment State)
+    (rest : List (Moment State)) →
     drop i (primary_moments code case input) ≡ moment ∷ rest →
     moment ∷ rest ≡ from_first race (primary_moments code case input) →
     hold_point code case race input
     ≡ point_at (snapshots (take i (primary_moments code case input)) ++ snapshot moment.before ∷ []) moment
-    (access_at (setting_of code case input) moment)
+    (access_at (machine_of (setting_of code case input)) moment)
 unfolding hold_point
 point-here code case race input i moment rest is from =
     let moments = primary_moments code case input in
-    let setting = setting_of code case input in
+    let system = machine_of (setting_of code case input) in
     let count : length moments - length rest ≡ i + 1 = omega (arith, length-drop i moments, ap length is) in
-    ap (point_in setting moments) (sym from)
-    ∙ ap (λ number. point_at (snapshots (take number moments)) moment (access_at setting moment)) count
-    ∙ ap (λ past. point_at past moment (access_at setting moment)) (snapshots-next moments i moment rest is)
+    ap (point_in system moments) (sym from)
+    ∙ ap (λ number. point_at (snapshots (take number moments)) moment (access_at system moment)) count
+    ∙ ap (λ past. point_at past moment (access_at system moment)) (snapshots-next moments i moment rest is)
 
 -- the thread that is told is that of a choice
 pub thread-chosen : (chosen : Option Choice) (thread : ℕ) → Some thread ≡ option_map (λ choice. choice.thread) chosen →
@@ -70,7 +73,8 @@ pub point-of : (code : Module) (case : Case) (found : Option Point) (course : Co
 point-of code case None course of is = tt
 point-of code case (Some point) course of is = subst (IsOf code case) (sym is) of
 
-pub Recalls-next : (moments : List Moment) (i : ℕ) (moment : Moment) (rest : List Moment) (now : Snapshot) (past : Past) →
+pub Recalls-next : (moments : List (Moment State)) (i : ℕ) (moment : Moment State) (rest : List (Moment State))
+    (now : Snapshot State) (past : Past) →
     drop i moments ≡ moment ∷ rest →
     Recalls ((snapshots (take i moments) ++ snapshot moment.before ∷ []) ++ now ∷ []) past →
     Recalls (snapshots (take (i + 1) moments) ++ now ∷ []) past

@@ -13,14 +13,14 @@ use Rattle.machine_model.specs.Access.{conflicts, is_site, overlaps}
 use Rattle.machine_model.specs.Moment.{Moment, access_at, from_turn}
 use Rattle.machine_model.specs.Primary.{setting_of}
 use Rattle.machine_model.specs.Reach.{Reaches, does_second, primary_moments, reaches_from}
-use Rattle.machine_model.specs.Setting.{Setting}
+use Rattle.machine_model.specs.System.{System, machine_of}
 use Rattle.race_top.specs.CheckRace.{RaceFault, RaceOf, is_range, race_at, race_with, turns_of}
 use Rattle.race_top.specs.CheckRace.RaceFault.{NoConflict, Range, SameThread}
 use Rattle.race_top.specs.CheckRaceLaws.{RecordedRunReaches, ThreadsDiffer}
 use Rattle.race_top.proofs.Moments.{slice_get-drop}
 
 -- the race of two turns that do these accesses
-abbrev race_is : ℕ → ℕ → ℕ → Moment → Moment → Access → Access → Race
+abbrev race_is : {S : Type 0} → ℕ → ℕ → ℕ → Moment S → Moment S → Access → Access → Race
 race_is first second count one other access again = record {
   first = first;
   second = second;
@@ -32,11 +32,11 @@ race_is first second count one other access again = record {
 }
 
 -- what stands behind a race of these moments
-record Found (setting : Setting) (moments : List Moment) (race : Race) : Type 0 where
+record Found {S : Type 0} (system : System S) (moments : List (Moment S)) (race : Race) : Type 0 where
   first : ℕ
   second : ℕ
-  one : Moment
-  other : Moment
+  one : Moment S
+  other : Moment S
   access : Access
   again : Access
   low : 0 < first
@@ -44,8 +44,8 @@ record Found (setting : Setting) (moments : List Moment) (race : Race) : Type 0 
   is_one : slice_get moments (first - 1) ≡ Some one
   is_other : slice_get moments (second - 1) ≡ Some other
   apart : one.thread ≢ other.thread
-  does_one : access_at setting one ≡ Some access
-  does_other : access_at setting other ≡ Some again
+  does_one : access_at system one ≡ Some access
+  does_other : access_at system other ≡ Some again
   conflict : conflicts access again ≡ true
   is : race ≡ race_is first second (turns_of one.thread (take first moments)) one other access again
 
@@ -54,11 +54,11 @@ ok-if : (test : Bool) (answer race : Race) (fault : RaceFault) → cond test (Ok
 ok-if true answer race fault is = (refl, cc)
 ok-if false answer race fault is = absurd (let h : ⊥ = cc in h)
 
-module _ (setting : Setting) (moments : List Moment) (first second : ℕ) (race : Race) (low : 0 < first) (above : first < second) where
-  found-with : (one other : Moment) (access again : Option Access) → slice_get moments (first - 1) ≡ Some one →
+module _ {S : Type 0} (system : System S) (moments : List (Moment S)) (first second : ℕ) (race : Race) (low : 0 < first) (above : first < second) where
+  found-with : (one other : Moment S) (access again : Option Access) → slice_get moments (first - 1) ≡ Some one →
       slice_get moments (second - 1) ≡ Some other → one.thread ≢ other.thread →
-      access_at setting one ≡ access → access_at setting other ≡ again →
-      race_with (take first moments) first second one other access again ≡ Ok race → Found setting moments race
+      access_at system one ≡ access → access_at system other ≡ again →
+      race_with (take first moments) first second one other access again ≡ Ok race → Found system moments race
   found-with one other (Some access) (Some again) is_one is_other apart does_one does_other is =
       let parts = ok-if (conflicts access again)
       (race_is first second (turns_of one.thread (take first moments)) one other access again) race NoConflict is in
@@ -82,40 +82,42 @@ module _ (setting : Setting) (moments : List Moment) (first second : ℕ) (race 
   found-with one other (Some access) None is_one is_other apart does_one does_other is = absurd (let h : ⊥ = cc in h)
   found-with one other None again is_one is_other apart does_one does_other is = absurd (let h : ⊥ = cc in h)
 
-  found-apart : (one other : Moment) (same : Bool) → slice_get moments (first - 1) ≡ Some one →
+  found-apart : (one other : Moment S) (same : Bool) → slice_get moments (first - 1) ≡ Some one →
       slice_get moments (second - 1) ≡ Some other → eqb one.thread other.thread ≡ same →
       cond same (Err SameThread)
-      (race_with (take first moments) first second one other (access_at setting one) (access_at setting other)) ≡ Ok race →
-      Found setting moments race
+      (race_with (take first moments) first second one other (access_at system one) (access_at system other)) ≡ Ok race →
+      Found system moments race
   found-apart one other true is_one is_other same is = absurd (let h : ⊥ = cc in h)
   found-apart one other false is_one is_other same is =
-      found-with one other (access_at setting one) (access_at setting other) is_one is_other
+      found-with one other (access_at system one) (access_at system other) is_one is_other
       (eqb-false one.thread other.thread same) refl refl is
 
-  found-at : (one other : Option Moment) → slice_get moments (first - 1) ≡ one → slice_get moments (second - 1) ≡ other →
-      race_at setting moments first second one other ≡ Ok race → Found setting moments race
+  found-at : (one other : Option (Moment S)) → slice_get moments (first - 1) ≡ one →
+      slice_get moments (second - 1) ≡ other →
+      race_at system moments first second one other ≡ Ok race → Found system moments race
   found-at (Some one) (Some other) is_one is_other is =
       found-apart one other (eqb one.thread other.thread) is_one is_other refl is
   found-at (Some one) None is_one is_other is = absurd (let h : ⊥ = cc in h)
   found-at None other is_one is_other is = absurd (let h : ⊥ = cc in h)
 
-found-if : (setting : Setting) (moments : List Moment) (first second count : ℕ) (race : Race) (within : Bool) →
+found-if : {S : Type 0} (system : System S) (moments : List (Moment S)) (first second count : ℕ) (race : Race)
+    (within : Bool) →
     is_range first second count ≡ within →
-    cond within (race_at setting moments first second (slice_get moments (first - 1)) (slice_get moments (second - 1))) (Err Range)
-    ≡ Ok race → Found setting moments race
-found-if setting moments first second count race true within is =
+    cond within (race_at system moments first second (slice_get moments (first - 1)) (slice_get moments (second - 1))) (Err Range)
+    ≡ Ok race → Found system moments race
+found-if system moments first second count race true within is =
     let parts = and_parts (ltb 0 first && ltb first second) _ within in
     let order = and_parts (ltb 0 first) (ltb first second) parts.0 in
-    found-at setting moments first second race (ltb-true 0 first order.0) (ltb-true first second order.1)
+    found-at system moments first second race (ltb-true 0 first order.0) (ltb-true first second order.1)
     (slice_get moments (first - 1)) (slice_get moments (second - 1)) refl refl is
-found-if setting moments first second count race false within is = absurd (let h : ⊥ = cc in h)
+found-if system moments first second count race false within is = absurd (let h : ⊥ = cc in h)
 
 found : (code : Module) (case : Case) (pair : ℕ × ℕ) (race : Race) → RaceOf code case pair ≡ Ok race →
-    Found (setting_of code case case.input) (primary_moments code case case.input) race
+    Found (machine_of (setting_of code case case.input)) (primary_moments code case case.input) race
 unfolding RaceOf
 found code case pair race is =
-    found-if (setting_of code case case.input) (primary_moments code case case.input) pair.0 pair.1 (length case.turns) race
-    (is_range pair.0 pair.1 (length case.turns)) refl is
+    found-if (machine_of (setting_of code case case.input)) (primary_moments code case case.input) pair.0 pair.1
+    (length case.turns) race (is_range pair.0 pair.1 (length case.turns)) refl is
 
 pub threads-differ : ThreadsDiffer
 threads-differ code case pair race is =
@@ -123,7 +125,8 @@ threads-differ code case pair race is =
     rw by.is by.apart
 
 -- a thread's turns up to one of its own are some
-some-turns : (thread place : ℕ) (moments : List Moment) (one : Moment) → slice_get moments place ≡ Some one →
+some-turns : {S : Type 0} (thread place : ℕ) (moments : List (Moment S)) (one : Moment S) →
+    slice_get moments place ≡ Some one →
     one.thread ≡ thread → 0 < turns_of thread (take (suc place) moments)
 some-turns thread place [] one is own = absurd (let h : ⊥ = cc in h)
 some-turns thread zero (moment ∷ later) one is own =
@@ -139,7 +142,8 @@ some-turns thread (suc place) (moment ∷ later) one is own =
     more false some = some
 
 -- a turn of the thread that is not the last of these, or one of another thread
-past-turn : (thread : ℕ) (moment : Moment) (later own left : List Moment) (here : Bool) → 0 < length own →
+past-turn : {S : Type 0} (thread : ℕ) (moment : Moment S) (later own left : List (Moment S)) (here : Bool) →
+    0 < length own →
     from_turn thread (length own) later ≡ left →
     cond here
     (cond (eqb (length (cond here (moment ∷ own) own)) 1) (moment ∷ later)
@@ -153,7 +157,8 @@ past-turn thread moment later own left true some on =
 past-turn thread moment later own left false some on = on
 
 -- the moments from that turn of the thread on are those from the place of the turn on
-from-turn : (thread place : ℕ) (moments : List Moment) (one : Moment) → slice_get moments place ≡ Some one →
+from-turn : {S : Type 0} (thread place : ℕ) (moments : List (Moment S)) (one : Moment S) →
+    slice_get moments place ≡ Some one →
     one.thread ≡ thread → from_turn thread (turns_of thread (take (suc place) moments)) moments ≡ drop place moments
 from-turn thread place [] one is own = absurd (let h : ⊥ = cc in h)
 from-turn thread zero (moment ∷ later) one is own =
@@ -181,9 +186,10 @@ other-overlaps one other is =
     let parts = and_parts (ltb one.at (other.at + other.len)) (ltb other.at (one.at + one.len)) over.0 in
     and_from (ltb other.at (one.at + one.len)) (ltb one.at (other.at + other.len)) parts.1 parts.0
 
-does-second : (setting : Setting) (moments : List Moment) (race : Race) (by : Found setting moments race) →
-    does_second setting race by.access by.other ≡ true
-does-second setting moments race by =
+does-second : {S : Type 0} (system : System S) (moments : List (Moment S)) (race : Race)
+    (by : Found system moments race) →
+    does_second system race by.access by.other ≡ true
+does-second system moments race by =
     rw by.does_other
     (and_from (eqb by.other.thread race.t2) (is_site by.again.site race.s2 && overlaps by.again by.access)
     (eq-eqb by.other.thread race.t2 (sym (ap (λ it. it.t2) by.is)))
@@ -191,9 +197,9 @@ does-second setting moments race by =
     (ap (λ it. is_site by.again.site it.s2) by.is ∙ same-site by.again.site)
     (other-overlaps by.access by.again by.conflict)))
 
-reached : (setting : Setting) (moments : List Moment) (race : Race) → Found setting moments race →
-    reaches_from setting race (from_turn race.t1 race.v1 moments) ≡ true
-reached setting moments race by =
+reached : {S : Type 0} (system : System S) (moments : List (Moment S)) (race : Race) → Found system moments race →
+    reaches_from system race (from_turn race.t1 race.v1 moments) ≡ true
+reached system moments race by =
     let place = by.first - 1 in
     let next : suc place ≡ by.first = omega (arith, by.low) in
     let count : race.v1 ≡ turns_of by.one.thread (take (suc place) moments) =
@@ -209,13 +215,14 @@ reached setting moments race by =
     let same_place : suc place + after ≡ by.second - 1 = omega (arith, by.low, by.above) in
     let is_later : slice_get later after ≡ Some by.other =
     slice_get-drop moments (suc place) after ∙ ap (slice_get moments) same_place ∙ by.is_other in
-    let does : does_second setting race by.access by.other ≡ true = does-second setting moments race by in
+    let does : does_second system race by.access by.other ≡ true = does-second system moments race by in
     rw (from, by.does_one)
-    (and_from (is_site by.access.site race.s1) (list_any (does_second setting race by.access) later)
+    (and_from (is_site by.access.site race.s1) (list_any (does_second system race by.access) later)
     (ap (λ it. is_site by.access.site it.s1) by.is ∙ same-site by.access.site)
-    (any_passes_from_place (does_second setting race by.access) later after by.other is_later does))
+    (any_passes_from_place (does_second system race by.access) later after by.other is_later does))
 
 pub recorded-run-reaches : RecordedRunReaches
 unfolding Reaches
 recorded-run-reaches code case pair race is =
-    reached (setting_of code case case.input) (primary_moments code case case.input) race (found code case pair race is)
+    reached (machine_of (setting_of code case case.input)) (primary_moments code case case.input) race
+    (found code case pair race is)

@@ -7,10 +7,9 @@ use Rattle.std.proofs.lemmas.Bool.Decides.{nat_tests}
 use Rattle.machine_model.specs.declared.run.Outcome.{Outcome}
 use Rattle.machine_model.specs.declared.run.Outcome.TheVariants as outcomes
 use Rattle.machine_model.specs.declared.run.Run.{Run}
-use Rattle.machine_model.specs.Enabled.{enabled}
 use Rattle.machine_model.specs.Policy.{Choice, choose}
 use Rattle.machine_model.specs.Run.{Course, advanced, advanced_with, begun, onward_or_told, run_from, run_of}
-use Rattle.machine_model.specs.Setting.{Setting}
+use Rattle.machine_model.specs.System.{System}
 use Rattle.machine_model.proofs.Replays.{Begins, chosen-begins, run_from-begins}
 use Rattle.race_top.specs.TraceReplay.{fault_at_end, fault_from, first_other, is_listed, replay_fault}
 
@@ -95,29 +94,29 @@ taken-without_fault listed run None is some none =
     (long-enough listed (length run.turns) run.outcome some none)
 
 -- a run that was spent has the turn that was cut
-spent-some : (go : Course → Run) (setting : Setting) (course : Course) (choice : Option Choice) →
-    ((next : Course) → Begins next.turns (go next).turns) →
-    (onward_or_told go (advanced_with setting course choice)).outcome ≡ outcomes.Spent →
-    0 < length (onward_or_told go (advanced_with setting course choice)).turns
-spent-some go setting course None continues spent = absurd (let h : ⊥ = cc in h)
-spent-some go setting course (Some choice) continues spent =
-    let begins = chosen-begins go setting course choice continues in
+spent-some : {S : Type 0} (go : Course S → Run) (system : System S) (course : Course S) (choice : Option Choice) →
+    ((next : Course S) → Begins next.turns (go next).turns) →
+    (onward_or_told system go (advanced_with system course choice)).outcome ≡ outcomes.Spent →
+    0 < length (onward_or_told system go (advanced_with system course choice)).turns
+spent-some go system course None continues spent = absurd (let h : ⊥ = cc in h)
+spent-some go system course (Some choice) continues spent =
+    let begins = chosen-begins go system course choice continues in
     rw begins.1
     (omega (arith, length-append (course.turns ++ choice.thread ∷ []) begins.0, length-append course.turns (choice.thread ∷ [])))
 
-run_from-some : (most : ℕ) (setting : Setting) (listed : List ℕ) (course : Course) → 0 < most →
-    (run_from most setting listed course).outcome ≡ outcomes.Spent → 0 < length (run_from most setting listed course).turns
+run_from-some : {S : Type 0} (most : ℕ) (system : System S) (listed : List ℕ) (course : Course S) → 0 < most →
+    (run_from most system listed course).outcome ≡ outcomes.Spent → 0 < length (run_from most system listed course).turns
 unfolding run_from advanced
-run_from-some zero setting listed course some spent = absurd (omega arith)
-run_from-some (suc most) setting listed course some spent =
-    spent-some (run_from most setting listed) setting course (choose listed course.policy (enabled setting course.state))
-    (run_from-begins most setting listed) spent
+run_from-some zero system listed course some spent = absurd (omega arith)
+run_from-some (suc most) system listed course some spent =
+    spent-some (run_from most system listed) system course (choose listed course.policy (system.enabled course.state))
+    (run_from-begins most system listed) spent
 
-pub replay_fault-none : (setting : Setting) (listed : List ℕ) (steps : ℕ) →
-    replay_fault listed (run_of setting listed steps) ≡ None →
-    take (length listed) (run_of setting listed steps).turns ≡ listed
+pub replay_fault-none : {S : Type 0} (system : System S) (listed : List ℕ) (steps : ℕ) →
+    replay_fault listed (run_of system listed steps) ≡ None →
+    take (length listed) (run_of system listed steps).turns ≡ listed
 unfolding replay_fault run_of
-replay_fault-none setting listed steps none =
-    let run = run_from (steps + 1) setting listed (begun setting steps) in
+replay_fault-none system listed steps none =
+    let run = run_from (steps + 1) system listed (begun system steps) in
     taken-without_fault listed run (first_other listed run.turns) refl
-    (run_from-some (steps + 1) setting listed (begun setting steps) (omega arith)) none
+    (run_from-some (steps + 1) system listed (begun system steps) (omega arith)) none

@@ -7,6 +7,7 @@ use Rattle.std.proofs.lemmas.List.Sums.{length-filter, sum_by-cons, sum_by_push}
 use Rattle.std.proofs.lemmas.Option.{slice_get_past}
 use Rattle.ir_types.specs.declared.«module».Module.{Module}
 use Rattle.machine_model.specs.declared.case.Case.{Case}
+use Rattle.machine_model.specs.declared.state.State.{State}
 use Rattle.machine_model.specs.Moment.{Moment}
 use Rattle.machine_model.specs.Policy.{Policy}
 use Rattle.concrete_machine.specs.declared.course.Course.{Course as Kept}
@@ -36,7 +37,7 @@ second-after xs first second x rest low above is =
 pub slice_get-empty : {X : Type 0} (xs : List X) (i : ℕ) → drop i xs ≡ [] → slice_get xs i ≡ None
 slice_get-empty xs i is = slice_get_past xs i (omega (arith, length-drop i xs, ap length is))
 
-turns_of-threads : (thread : ℕ) (moments : List Moment) →
+turns_of-threads : {S : Type 0} (thread : ℕ) (moments : List (Moment S)) →
     count_by (λ moment. moment.thread == thread) moments ≡ count_by (λ turn. turn == thread) (threads_of moments)
 turns_of-threads thread [] = refl
 turns_of-threads thread (moment ∷ moments) =
@@ -45,7 +46,8 @@ turns_of-threads thread (moment ∷ moments) =
     ∙ sym (sum_by-cons (λ turn. cond (eqb turn thread) 1 0) moment.thread (threads_of moments))
 
 -- the turns of a moment's thread up to it are those before it and its own
-pub turns_of-count : (moments : List Moment) (place : ℕ) (moment : Moment) (rest : List Moment) (turns : List ℕ) →
+pub turns_of-count : {S : Type 0} (moments : List (Moment S)) (place : ℕ) (moment : Moment S)
+    (rest : List (Moment S)) (turns : List ℕ) →
     drop place moments ≡ moment ∷ rest → turns ≡ threads_of (take place moments) →
     turns_of moment.thread (take (place + 1) moments) ≡ count_by (λ turn. turn == moment.thread) turns + 1
 turns_of-count moments place moment rest turns is taken =
@@ -59,7 +61,8 @@ turns_of-count moments place moment rest turns is taken =
     (turns_of-threads thread (take place moments) ∙ ap (count_by (λ turn. turn == thread)) (sym taken))
 
 -- where the run doesn't go on after the first turn it has no second
-pub second-none : (code : Module) (case : Case) (moments : List Moment) (most rest first second : ℕ) (due : Due) →
+pub second-none : (code : Module) (case : Case) (moments : List (Moment State)) (most rest first second : ℕ)
+    (due : Due) →
     0 < first → first < second → rest ≡ most - first →
     IsDue code case (most - (first - 1 + 1)) (Some due) (drop (first - 1) moments) →
     after_due code case rest due ≡ [] → slice_get moments (second - 1) ≡ None
@@ -70,7 +73,8 @@ second-none code case moments most rest first second due low above left is none 
     second-past moments first second low above (rw first_is (omega arith))
 
 -- where it goes on, the second turn is one of those after the first
-pub second-of : (code : Module) (case : Case) (moments : List Moment) (most rest first second : ℕ) (due : Due) (next : Kept) →
+pub second-of : (code : Module) (case : Case) (moments : List (Moment State)) (most rest first second : ℕ)
+    (due : Due) (next : Kept) →
     0 < first → first < second → rest ≡ most - first →
     IsDue code case (most - (first - 1 + 1)) (Some due) (drop (first - 1) moments) →
     after_due code case rest due ≡ recorded_from code case rest (course_of next) →
@@ -82,7 +86,8 @@ second-of code case moments most rest first second due next low above left is on
     ∙ ap (λ later. slice_get later (second - first - 1)) on
 
 -- the turns of the first thread, of which its turn is the last
-pub first-count : (code : Module) (case : Case) (moments : List Moment) (most first : ℕ) (due : Due) (policy : Policy) (count : ℕ) →
+pub first-count : (code : Module) (case : Case) (moments : List (Moment State)) (most first : ℕ) (due : Due)
+    (policy : Policy) (count : ℕ) →
     0 < first → drop (first - 1) moments ≡ moment_due policy due ∷ after_due code case most due →
     due.course.turns.items ≡ threads_of (take (first - 1) moments) →
     count ≡ count_by (λ turn. turn == due.thread) due.course.turns.items →
@@ -97,7 +102,7 @@ first-count code case moments most first due policy count low is taken counted =
 pub from-start : (start turns taken : List ℕ) → start ≡ [] → turns ≡ start ++ taken → turns ≡ taken
 from-start start turns taken none is = is ∙ ap (λ front. front ++ taken) none
 
-pub few-threads : (start turns : List ℕ) (most : ℕ) (moments : List Moment) → start ≡ [] →
+pub few-threads : {S : Type 0} (start turns : List ℕ) (most : ℕ) (moments : List (Moment S)) → start ≡ [] →
     turns ≡ start ++ threads_of (take most moments) → length turns ≤ most
 few-threads start turns most moments none is =
     omega (

@@ -8,7 +8,7 @@ use Rattle.machine_model.specs.Access.{conflicts}
 use Rattle.machine_model.specs.Moment.{Moment, access_at}
 use Rattle.machine_model.specs.Primary.{setting_of}
 use Rattle.machine_model.specs.Reach.{primary_moments}
-use Rattle.machine_model.specs.Setting.{Setting}
+use Rattle.machine_model.specs.System.{System, machine_of}
 use Rattle.race_top.specs.declared.trace_replay.check.RaceError.{RaceError}
 use Rattle.race_top.specs.declared.trace_replay.check.RaceError.TheVariants as errors
 
@@ -23,10 +23,11 @@ abbrev pub is_range : ℕ → ℕ → ℕ → Bool
 is_range first second count = nat_lt 0 first && nat_lt first second && nat_le second count
 
 -- how many of these turns are a thread's
-abbrev pub turns_of : ℕ → List Moment → ℕ
+abbrev pub turns_of : {S : Type 0} → ℕ → List (Moment S) → ℕ
 turns_of thread moments = length (filter (λ moment. moment.thread == thread) moments)
 
-abbrev pub race_by : List Moment → ℕ → ℕ → Moment → Moment → Access → Access → Result Race RaceFault
+abbrev pub race_by : {S : Type 0} → List (Moment S) → ℕ → ℕ → Moment S → Moment S → Access → Access →
+    Result Race RaceFault
 race_by early first second one other access again =
     if conflicts access again then Ok (record {
       first = first;
@@ -39,26 +40,28 @@ race_by early first second one other access again =
     })
     else Err NoConflict
 
-abbrev pub race_with : List Moment → ℕ → ℕ → Moment → Moment → Option Access → Option Access → Result Race RaceFault
+abbrev pub race_with : {S : Type 0} → List (Moment S) → ℕ → ℕ → Moment S → Moment S → Option Access →
+    Option Access → Result Race RaceFault
 race_with early first second one other (Some access) (Some again) =
     race_by early first second one other access again
 race_with early first second one other (Some access) None = Err NotWatched
 race_with early first second one other None again = Err NotWatched
 
 -- of two turns of the run; a turn that the run does not have does no access
-abbrev pub race_at : Setting → List Moment → ℕ → ℕ → Option Moment → Option Moment → Result Race RaceFault
-race_at setting moments first second (Some one) (Some other) =
+abbrev pub race_at : {S : Type 0} → System S → List (Moment S) → ℕ → ℕ → Option (Moment S) → Option (Moment S) →
+    Result Race RaceFault
+race_at system moments first second (Some one) (Some other) =
     if one.thread == other.thread then Err SameThread
-    else race_with (take first moments) first second one other (access_at setting one) (access_at setting other)
-race_at setting moments first second (Some one) None = Err NotWatched
-race_at setting moments first second None other = Err NotWatched
+    else race_with (take first moments) first second one other (access_at system one) (access_at system other)
+race_at system moments first second (Some one) None = Err NotWatched
+race_at system moments first second None other = Err NotWatched
 
 -- the race of a pair of recorded turns: they are two threads', each does an access, and the accesses conflict
 unfoldable pub RaceOf : Module → Case → ℕ × ℕ → Result Race RaceFault
 RaceOf code case pair =
     let moments = primary_moments code case case.input in
     if is_range pair.0 pair.1 (length case.turns)
-    then race_at (setting_of code case case.input) moments pair.0 pair.1
+    then race_at (machine_of (setting_of code case case.input)) moments pair.0 pair.1
     (slice_get moments (pair.0 - 1)) (slice_get moments (pair.1 - 1))
     else Err Range
 

@@ -2,6 +2,7 @@
 use Rattle.std.specs.Prelude.{◌≡◌, ℕ, ◌≤◌, List}
 use Rattle.ir_types.specs.declared.«module».Module.{Module}
 use Rattle.machine_model.specs.declared.case.Case.{Case}
+use Rattle.machine_model.specs.declared.state.State.{State}
 use Rattle.machine_model.specs.Hold.{Held}
 use Rattle.machine_model.specs.Repeat.{Snapshot}
 use Rattle.machine_model.specs.Run.{Course}
@@ -12,9 +13,9 @@ use Rattle.race_top.specs.OrderEnforcer.{Enforces, IsReady}
 use Rattle.race_top.specs.Past.{Recalls}
 
 -- after a turn the hold goes on, or that is how it ends
-abbrev pub LeadsTo : (List Snapshot → Course → Held) → HoldAdvance → Held → Type 0
+abbrev pub LeadsTo : (List (Snapshot State) → Course State → Held State) → HoldAdvance → Held State → Type 0
 LeadsTo go (Onward course past) held =
-    (snapshots : List Snapshot) × Recalls snapshots past × (held ≡ go snapshots (course_of course))
+    (snapshots : List (Snapshot State)) × Recalls snapshots past × (held ≡ go snapshots (course_of course))
 LeadsTo go (Over enforced) held = Enforces enforced held
 
 -- the run goes on with no more steps and at most so many turns

@@ -2,6 +2,7 @@
 use Rattle.std.specs.Prelude.{◌≡◌, ℕ, ◌≤◌, List, Option, Some, None}
 use Rattle.ir_types.specs.declared.«module».Module.{Module}
 use Rattle.machine_model.specs.declared.case.Case.{Case}
+use Rattle.machine_model.specs.declared.state.State.{State}
 use Rattle.machine_model.specs.Hold.{Held}
 use Rattle.machine_model.specs.Hold.Held.{Done, NotEnforced, Ran}
 use Rattle.machine_model.specs.Job.{Alternate, HoldPoint}
@@ -16,16 +17,16 @@ use Rattle.race_top.specs.declared.order_enforcer.point.Point.{Point}
 use Rattle.race_top.specs.Past.{Recalls}
 
 -- the hold point was found, with what the repeat test compares with there
-abbrev pub FindsPoint : Option Point → Option HoldPoint → Type 0
+abbrev pub FindsPoint : Option Point → Option (HoldPoint State) → Type 0
 FindsPoint None point = point ≡ None
 FindsPoint (Some found) point =
-    (snapshots : List Snapshot) × Recalls snapshots found.past
+    (snapshots : List (Snapshot State)) × Recalls snapshots found.past
     × (point ≡ Some (record { past = snapshots; course = course_of found.course; first = found.first }))
 
 -- how the hold ends
-abbrev pub Enforces : Enforced → Held → Type 0
+abbrev pub Enforces : Enforced → Held State → Type 0
 Enforces (answers.Ready course past) held =
-    (snapshots : List Snapshot) × Recalls snapshots past × (held ≡ Done snapshots (course_of course))
+    (snapshots : List (Snapshot State)) × Recalls snapshots past × (held ≡ Done snapshots (course_of course))
 Enforces (answers.Not reason course) held = held ≡ NotEnforced reason (course_of course)
 Enforces (answers.Ended run) held = held ≡ Ran run
 

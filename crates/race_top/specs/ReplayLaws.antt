@@ -2,10 +2,9 @@
 use Rattle.std.specs.Prelude.{◌≡◌, ◌≢◌, ℕ, ◌+◌, List, Contains, length, slice_get, take, Some, None}
 use Rattle.machine_model.specs.declared.run.Outcome.TheVariants as outcomes
 use Rattle.machine_model.specs.declared.run.Run.{Run}
-use Rattle.machine_model.specs.Enabled.{enabled}
 use Rattle.machine_model.specs.ReplayLaws.{course_after}
 use Rattle.machine_model.specs.Run.{begun, run_of}
-use Rattle.machine_model.specs.Setting.{Setting}
+use Rattle.machine_model.specs.System.{System}
 use Rattle.race_top.specs.TraceReplay.{replay_fault}
 use Rattle.race_top.specs.TraceReplay.ReplayFault.{TurnNotEnabled}
 
@@ -14,16 +13,16 @@ abbrev pub RunTakesItsTurns : Type 0
 RunTakesItsTurns = (run : Run) → run.outcome ≢ outcomes.Spent → replay_fault run.turns run ≡ None
 
 -- a list that is not refused stands at the front of the run's turns
-abbrev pub ListedAreTaken : Type 0
-ListedAreTaken =
-    (setting : Setting) (listed : List ℕ) (steps : ℕ) →
-    replay_fault listed (run_of setting listed steps) ≡ None →
-    take (length listed) (run_of setting listed steps).turns ≡ listed
+abbrev pub ListedAreTaken : {S : Type 0} → System S → Type 0
+ListedAreTaken system =
+    (listed : List ℕ) (steps : ℕ) →
+    replay_fault listed (run_of system listed steps) ≡ None →
+    take (length listed) (run_of system listed steps).turns ≡ listed
 
 -- the thread of a listed turn that is refused as not enabled is none of those that are enabled at that moment
-abbrev pub RefusedIsNotEnabled : Type 0
-RefusedIsNotEnabled =
-    (setting : Setting) (listed : List ℕ) (steps before thread : ℕ) →
-    replay_fault listed (run_of setting listed steps) ≡ Some (TurnNotEnabled (before + 1)) →
+abbrev pub RefusedIsNotEnabled : {S : Type 0} → System S → Type 0
+RefusedIsNotEnabled system =
+    (listed : List ℕ) (steps before thread : ℕ) →
+    replay_fault listed (run_of system listed steps) ≡ Some (TurnNotEnabled (before + 1)) →
     slice_get listed before ≡ Some thread →
-    ¬ Contains (enabled setting (course_after before setting listed (begun setting steps)).state) thread
+    ¬ Contains (system.enabled (course_after before system listed (begun system steps)).state) thread

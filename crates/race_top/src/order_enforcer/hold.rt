@@ -8,6 +8,8 @@ ghost use Rattle.machine_model.specs.Repeat.{Snapshot};
 ghost use Rattle.machine_model.specs.Run.{Course as Seen};
 ghost use Rattle.machine_model.specs.Run.Advance.{Onward};
 ghost use Rattle.machine_model.specs.Setting.{Setting};
+ghost use Rattle.machine_model.specs.System.{machine_of};
+ghost use Rattle.machine_model.specs.declared.state.State.{State};
 ghost use Rattle.concrete_machine.specs.Course.{IsOf, course_of};
 ghost use Rattle.race_top.specs.declared.order_enforcer.hold.Enforced.TheVariants as answers;
 ghost use Rattle.race_top.specs.declared.order_enforcer.hold.HoldAdvance.TheVariants as advances;
@@ -54,14 +56,14 @@ fn is_second(race: &Race, first: Access, access: Option<Access>) -> bool
 /// Whether the turn of a thread does the race's second access.
 fn does_second(race: &Race, first: Access, course: &Course, thread: u32) -> bool
     ensures { (setting : Setting) (case : Case) → IsOf setting.code case course.now →
-        result ≡ does_second setting race.now first (record { before = course_of course.now; thread = thread }) }
+        result ≡ does_second (machine_of setting) race.now first (record { before = course_of course.now; thread = thread }) }
 {
     thread == race.t2 && is_second(race, first, course.access(thread))
 }
 
 /// How a hold ends whose last turn was the last of the run.
 fn end_hold(last: Course, outcome: Outcome) -> Enforced
-    ensures held { Enforces result (held_over (course_of last) outcome) }
+    ensures held { (setting : Setting) → Enforces result (held_over (machine_of setting) (course_of last) outcome) }
     ensures over { (code : Module) (case : Case) (left turns : ℕ) → IsReady code case left turns result }
 {
     match outcome {
@@ -83,8 +85,9 @@ fn give_up(course: Course, reason: Reason) -> HoldAdvance
 /// What a turn leads to after which the run goes on; `done` tells whether it did the second access.
 fn go_on(course: Course, mut past: Past, done: bool) -> Result<HoldAdvance, NoMemory>
     requires short { past.turns + 1 < 2 ^ 32 }
-    ensures held { IfOk result (λ advance. (go : List Snapshot → Seen → Held) (snapshots : List Snapshot) →
-        Recalls snapshots past → LeadsTo go advance (held_after go snapshots done (Onward (course_of course)))) }
+    ensures held { IfOk result (λ advance. (setting : Setting) (go : List (Snapshot State) → Seen State → Held State)
+        (snapshots : List (Snapshot State)) → Recalls snapshots past →
+        LeadsTo go advance (held_after (machine_of setting) go snapshots done (Onward (course_of course)))) }
     ensures within { IfOk result (λ advance. (code : Module) (case : Case) (left turns : ℕ) → IsOf code case course →
         course.left ≤ left → past.turns + 1 ≤ turns → StaysWithin code case left turns advance) }
 {
@@ -112,9 +115,9 @@ fn hold_turn<L: Ledger>(
 ) -> Result<HoldAdvance, NoMemory>
     requires of { IsOf code.now case.now course }
     requires short { past.turns + 1 < 2 ^ 32 }
-    ensures held { IfOk result (λ advance. (most : ℕ) (snapshots : List Snapshot) → Recalls snapshots past →
-        LeadsTo (held_from most (setting_of code.now case.now input.now) case.now.turns race.now first) advance
-        (held_from (suc most) (setting_of code.now case.now input.now) case.now.turns race.now first
+    ensures held { IfOk result (λ advance. (most : ℕ) (snapshots : List (Snapshot State)) → Recalls snapshots past →
+        LeadsTo (held_from most (machine_of (setting_of code.now case.now input.now)) case.now.turns race.now first) advance
+        (held_from (suc most) (machine_of (setting_of code.now case.now input.now)) case.now.turns race.now first
         snapshots (course_of course))) }
     ensures within { IfOk result (StaysWithin code.now case.now course.left (past.turns + 1)) }
 {
@@ -148,9 +151,9 @@ pub fn hold<L: Ledger>(
 ) -> Result<Enforced, NoMemory>
     requires of { IsOf code.now case.now course }
     requires short { past.turns + course.left + 1 < 2 ^ 32 }
-    ensures held { IfOk result (λ enforced. (snapshots : List Snapshot) → Recalls snapshots past →
-        Enforces enforced (held_from (course.left + 1) (setting_of code.now case.now input.now) case.now.turns race.now
-        first snapshots (course_of course))) }
+    ensures held { IfOk result (λ enforced. (snapshots : List (Snapshot State)) → Recalls snapshots past →
+        Enforces enforced (held_from (course.left + 1) (machine_of (setting_of code.now case.now input.now))
+        case.now.turns race.now first snapshots (course_of course))) }
     ensures ready { IfOk result (IsReady code.now case.now course.left (past.turns + course.left + 1)) }
 {
     // Each turn costs at least 1, or is cut.

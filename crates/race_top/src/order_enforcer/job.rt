@@ -6,6 +6,8 @@ ghost use Rattle.machine_model.specs.Job.{AlternateJob, PrimaryJob, alternate_af
 ghost use Rattle.machine_model.specs.Primary.{setting_of};
 ghost use Rattle.machine_model.specs.Reach.{Reaches};
 ghost use Rattle.machine_model.specs.Runnable.{IsRunnable};
+ghost use Rattle.machine_model.specs.System.{machine_of};
+ghost use Rattle.machine_model.specs.declared.state.State.{State};
 ghost use Rattle.race_top.specs.OrderEnforcer.{Enforces, IsReady, alternate_of};
 
 use crate::order_enforcer::hold::{Enforced, hold};
@@ -77,9 +79,9 @@ fn after_hold<L: Ledger>(
 ) -> Result<Alternate, NoMemory>
     requires steps { case.now.steps < 2 ^ 30 }
     requires ready { IsReady code.now case.now case.now.steps (2 * case.now.steps + 2) enforced }
-    ensures { IfOk result (λ alternate. (held : Held) → Enforces enforced held →
+    ensures { IfOk result (λ alternate. (held : Held State) → Enforces enforced held →
         alternate_of alternate
-        ≡ alternate_after (setting_of code.now case.now input.now) case.now.turns race.now (Some held)) }
+        ≡ alternate_after (machine_of (setting_of code.now case.now input.now)) case.now.turns race.now (Some held)) }
 {
     match enforced {
         Enforced::Ready { mut course, past } => {

@@ -3,6 +3,9 @@
 ghost use Rattle.std.specs.Prelude.{◌≡◌, ◌∷◌, [], ◌++◌, ◌+◌, ◌<◌, ◌^◌, IfOk, List, OnOk, length};
 ghost use Rattle.machine_model.specs.declared.run.Outcome.TheVariants.{Repeats};
 ghost use Rattle.machine_model.specs.Repeat.{Snapshot, earlier_turn, repeats, same_snapshot, snapshot};
+ghost use Rattle.machine_model.specs.Setting.{Setting};
+ghost use Rattle.machine_model.specs.System.{machine_of};
+ghost use Rattle.machine_model.specs.declared.state.State.{State};
 ghost use Rattle.concrete_machine.specs.Course.{course_of};
 ghost use Rattle.race_top.specs.Past.{Recalls, snapshot_of};
 
@@ -36,16 +39,16 @@ impl Past {
 
     /// Whether the turn that led to this course repeats the earlier one.
     pub fn repeats(&self, course: &Course) -> bool
-        ensures { (snapshots : List Snapshot) → Recalls snapshots self.now →
-            result ≡ repeats snapshots (snapshot (course_of course.now)) }
+        ensures { (setting : Setting) (snapshots : List (Snapshot State)) → Recalls snapshots self.now →
+            result ≡ repeats (machine_of setting) snapshots (snapshot (course_of course.now)) }
     {
         0 < self.turns && self.is_at(course)
     }
 
     /// Whether the course is as it was after the earlier turn.
-    #[tactic(auto, unfolding(machine_model::specs::Repeat::same_state))]
     fn is_at(&self, course: &Course) -> bool
-        ensures { result ≡ same_snapshot (snapshot_of self.now) (snapshot (course_of course.now)) }
+        ensures { (setting : Setting) →
+            result ≡ same_snapshot (machine_of setting) (snapshot_of self.now) (snapshot (course_of course.now)) }
     {
         self.machine.same_state(&course.machine) && self.policy.same(&course.policy)
     }
@@ -53,7 +56,7 @@ impl Past {
     /// How a run ends whose next turn repeats the earlier one.
     pub fn repeat(&self) -> Outcome
         requires { self.now.turns + 1 < 2 ^ 32 }
-        ensures { (snapshots : List Snapshot) → Recalls snapshots self.now →
+        ensures { (snapshots : List (Snapshot State)) → Recalls snapshots self.now →
             result ≡ Repeats (length snapshots) (earlier_turn (length snapshots)) }
     {
         Outcome::Repeats {
@@ -65,7 +68,7 @@ impl Past {
     /// Notes a turn, which led to this course.
     pub fn note(&mut self, course: &Course) -> Result<(), NoMemory>
         requires { self.old.turns + 1 < 2 ^ 32 }
-        ensures recalls { OnOk result ((snapshots : List Snapshot) → Recalls snapshots self.old →
+        ensures recalls { OnOk result ((snapshots : List (Snapshot State)) → Recalls snapshots self.old →
             Recalls (snapshots ++ snapshot (course_of course.now) ∷ []) self.new) }
         ensures turns { OnOk result (self.new.turns ≡ self.old.turns + 1) }
     {

@@ -6,6 +6,8 @@ ghost use Rattle.machine_model.specs.Moment.{Moment, access_at, from_turn};
 ghost use Rattle.machine_model.specs.Repeat.{Snapshot};
 ghost use Rattle.machine_model.specs.Runnable.{IsRunnable};
 ghost use Rattle.machine_model.specs.Setting.{Setting};
+ghost use Rattle.machine_model.specs.System.{machine_of};
+ghost use Rattle.machine_model.specs.declared.state.State.{State};
 ghost use Rattle.concrete_machine.specs.Course.{IsOf, course_of};
 ghost use Rattle.race_top.specs.OrderEnforcer.{FindsPoint};
 ghost use Rattle.race_top.specs.Past.{Recalls};
@@ -29,7 +31,7 @@ pub struct Point {
 /// The race's first access is done in the turn of this number among those of its thread that are left. What the
 /// number is after a turn of `thread`; `None` where that turn is the one.
 fn number_after(number: u32, thread: u32, race: &Race) -> Option<u32>
-    ensures { (moment : Moment) (later : List Moment) → moment.thread ≡ thread →
+    ensures { (moment : Moment State) (later : List (Moment State)) → moment.thread ≡ thread →
         MatchOption result (from_turn race.now.t1 number (moment ∷ later) ≡ moment ∷ later)
         (λ rest. from_turn race.now.t1 number (moment ∷ later) ≡ from_turn race.now.t1 rest later) }
 {
@@ -44,10 +46,10 @@ fn number_after(number: u32, thread: u32, race: &Race) -> Option<u32>
 
 /// The hold point before a turn of this thread, if the turn does an access.
 fn point_of(course: Course, past: Past, thread: u32) -> Option<Point>
-    ensures point { (setting : Setting) (case : Case) (snapshots : List Snapshot) →
+    ensures point { (setting : Setting) (case : Case) (snapshots : List (Snapshot State)) →
         IsOf setting.code case course → Recalls snapshots past →
-        let moment : Moment = record { before = course_of course; thread = thread } in
-        FindsPoint result (point_at snapshots moment (access_at setting moment)) }
+        let moment : Moment State = record { before = course_of course; thread = thread } in
+        FindsPoint result (point_at snapshots moment (access_at (machine_of setting) moment)) }
     ensures course { IfSome result (λ point. point.course ≡ course) }
     ensures past { IfSome result (λ point. point.past ≡ past) }
 {

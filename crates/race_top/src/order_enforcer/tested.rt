@@ -3,7 +3,9 @@
 ghost use Rattle.std.specs.Prelude.{◌≡◌, ◌+◌, ◌<◌, ◌^◌, IfOk, List};
 ghost use Rattle.machine_model.specs.Primary.{setting_of};
 ghost use Rattle.machine_model.specs.Repeat.{Snapshot};
+ghost use Rattle.machine_model.specs.System.{machine_of};
 ghost use Rattle.machine_model.specs.TestedRun.{tested_on};
+ghost use Rattle.machine_model.specs.declared.state.State.{State};
 ghost use Rattle.concrete_machine.specs.Course.{IsOf, course_of};
 ghost use Rattle.race_top.specs.Past.{Recalls};
 
@@ -25,8 +27,8 @@ pub fn run_tested<L: Ledger>(
 ) -> Result<Run, NoMemory>
     requires of { IsOf code.now case.now course }
     requires short { past.turns + course.left + 1 < 2 ^ 32 }
-    ensures { IfOk result (λ run. (snapshots : List Snapshot) → Recalls snapshots past →
-        run ≡ tested_on (setting_of code.now case.now input.now) case.now.turns snapshots (course_of course)) }
+    ensures { IfOk result (λ run. (snapshots : List (Snapshot State)) → Recalls snapshots past →
+        run ≡ tested_on (machine_of (setting_of code.now case.now input.now)) case.now.turns snapshots (course_of course)) }
 {
     // Each turn costs at least 1, or is cut.
     let most = u64::from(course.left) + 1;

@@ -4,6 +4,8 @@ ghost use Rattle.std.specs.Prelude.{◌≡◌, ◌-◌, ◌<◌, List, Some, len
 ghost use Rattle.machine_model.specs.Moment.{Moment};
 ghost use Rattle.machine_model.specs.Runnable.{IsRunnable};
 ghost use Rattle.machine_model.specs.Setting.{Setting};
+ghost use Rattle.machine_model.specs.System.{machine_of};
+ghost use Rattle.machine_model.specs.declared.state.State.{State};
 ghost use Rattle.race_top.specs.CheckRace.{RaceOf, TellsRace, race_at};
 ghost use Rattle.race_top.specs.Seen.{SeesPair};
 
@@ -36,8 +38,9 @@ pub enum RaceError {
 
 /// The race of two turns of these numbers, the second after the first.
 fn race_of(first: u32, second: u32, pair: &Pair) -> Result<Race, RaceError>
-    ensures { (setting : Setting) (moments : List Moment) → SeesPair setting moments first second (Some pair.now) →
-        TellsRace result (race_at setting moments first second
+    ensures { (setting : Setting) (moments : List (Moment State)) →
+        SeesPair (machine_of setting) moments first second (Some pair.now) →
+        TellsRace result (race_at (machine_of setting) moments first second
         (slice_get moments (first - 1)) (slice_get moments (second - 1))) }
 {
     if pair.one.thread == pair.other.thread {

@@ -1,5 +1,7 @@
 //! Laws of the recorded run. No function here does anything; each one's contract is a theorem.
 
+ghost use Rattle.machine_model.specs.Setting.{Setting};
+ghost use Rattle.machine_model.specs.System.{machine_of};
 ghost use Rattle.race_top.specs.CheckRaceLaws.{RecordedRunReaches, ThreadsDiffer};
 ghost use Rattle.race_top.specs.ReplayLaws.{ListedAreTaken, RefusedIsNotEnabled, RunTakesItsTurns};
 
@@ -8,12 +10,12 @@ use machine_model::laws::chooser_follows_the_list;
 /// The refusals are exact: a run that was not spent takes its own turns, and what is not refused was taken.
 pub fn refusals_are_exact()
     ensures own { RunTakesItsTurns }
-    ensures taken { ListedAreTaken }
+    ensures taken { (setting : Setting) → ListedAreTaken (machine_of setting) }
 {}
 
 /// A thread is refused as not enabled only where it isn't.
 pub fn refused_is_not_enabled()
-    ensures { RefusedIsNotEnabled }
+    ensures { (setting : Setting) → RefusedIsNotEnabled (machine_of setting) }
 {
     chooser_follows_the_list();
 }

@@ -6,6 +6,7 @@ ghost use Rattle.machine_model.specs.Primary.{setting_of};
 ghost use Rattle.machine_model.specs.Reach.{primary_moments};
 ghost use Rattle.machine_model.specs.Runnable.{IsRunnable};
 ghost use Rattle.machine_model.specs.Setting.{Setting};
+ghost use Rattle.machine_model.specs.System.{machine_of};
 ghost use Rattle.concrete_machine.specs.Course.{IsOf, course_of};
 ghost use Rattle.race_top.specs.Seen.{IsDue, IsLeft, IsSeen, MayTake, SeesPair, after_due, moment_due, recorded_from, threads_of};
 
@@ -42,7 +43,7 @@ impl Due {
     /// What is seen of the turn.
     fn see(&self) -> Seen
         ensures { (setting : Setting) (case : Case) (policy : Policy) → IsOf setting.code case self.now.course →
-            IsSeen setting (moment_due policy self.now) result }
+            IsSeen (machine_of setting) (moment_due policy self.now) result }
     {
         Seen {
             thread: self.thread,
@@ -152,7 +153,7 @@ pub fn see_pair<L: Ledger>(
     requires name { blank.name ≡ L.name }
     requires parts { blank.parts ≡ L.parts }
     requires some { 0 < blank.parts }
-    ensures { IfOk result (SeesPair (setting_of code.now case.now case.now.input)
+    ensures { IfOk result (SeesPair (machine_of (setting_of code.now case.now case.now.input))
         (primary_moments code.now case.now case.now.input) first second) }
 {
     let mut steps = Steps::<L>::new(blank);

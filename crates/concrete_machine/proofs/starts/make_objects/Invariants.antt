@@ -1,5 +1,5 @@
 use Rattle.std.proofs.Common.{◌≡◌, map, take}
-use Rattle.machine_model.specs.Run.{object_of_global}
+use Rattle.machine_model.specs.Start.{object_of_global}
 use Rattle.concrete_machine.proofs.starts.make_objects.Given as goal
 
 abbrev pub invariant-loop-global : goal.invariant-loop-global

@@ -1,4 +1,4 @@
-use Rattle.machine_model.specs.Repeat.{same_state, without_output}
+use Rattle.machine_model.specs.System.{same_state, without_output}
 use Rattle.machine_model.proofs.PolicyEquality.{policy_decides}
 use Rattle.machine_model.proofs.Powers.{earlier_turn-is_power}
 use Rattle.machine_model.proofs.StateEquality.{state_decides}

@@ -13,9 +13,10 @@ use Rattle.machine_model.specs.Moment.{moments_from, moments_of}
 use Rattle.machine_model.specs.Operation.{changed_by, is_visible, is_visible_call, made_by, visible_effect}
 use Rattle.machine_model.specs.Policy.{choose}
 use Rattle.machine_model.specs.Reach.{Reaches}
-use Rattle.machine_model.specs.Repeat.{power_within, repeats, same_policy, same_state}
+use Rattle.machine_model.specs.Repeat.{power_within, repeats, same_policy}
 use Rattle.machine_model.specs.Run.{advanced}
 use Rattle.machine_model.specs.TestedRun.{tested_from, tested_run}
+use Rattle.machine_model.specs.System.{same_state}
 use Rattle.machine_model.specs.Turn.{turn, ran, paid, charged, rest_of_turn}
 use Rattle.machine_model.specs.Step.{first_step, next_step}
 use Rattle.machine_model.proofs.laws.worked_races.Goals as goal

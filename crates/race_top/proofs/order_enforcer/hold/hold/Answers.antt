@@ -2,6 +2,7 @@ use Rattle.std.proofs.Common.{◌≡◌, ℕ, ◌+◌, ◌-◌, ap, sym, ◌∙�
 use Rattle.machine_model.specs.Hold.{held_from}
 use Rattle.machine_model.specs.Hold.Held.{Ran}
 use Rattle.machine_model.specs.Primary.{setting_of}
+use Rattle.machine_model.specs.System.{machine_of}
 use Rattle.concrete_machine.specs.Course.{course_of}
 use Rattle.race_top.specs.declared.order_enforcer.hold.HoldAdvance.TheVariants.{Onward, Over}
 use Rattle.race_top.proofs.Holds.{hold-leads, hold-spent, ready-within}
@@ -9,7 +10,7 @@ use Rattle.race_top.proofs.order_enforcer.hold.hold.Goals as goal
 
 pub loop-init : goal.loop-init
 loop-init g c =
-    let setting = setting_of c.args.code.now c.args.case.now c.args.input.now in
+    let system = machine_of (setting_of c.args.code.now c.args.case.now c.args.input.now) in
     let count : c.args.course.left + 1 ≡ c.from-most.result + 1 - 0 = omega (arith, c.from-most.ensures) in
     record {
       count = omega (arith, c.from-most.ensures);
@@ -19,7 +20,7 @@ loop-init g c =
       same = λ snapshots recalls. (
         snapshots,
         recalls,
-        ap (λ (turns : ℕ). held_from turns setting c.args.case.now.turns c.args.race.now c.args.first
+        ap (λ (turns : ℕ). held_from turns system c.args.case.now.turns c.args.race.now c.args.first
             snapshots (course_of c.args.course)) count,
       );
     }
@@ -33,8 +34,8 @@ hold_turn-requires-clause-short g c =
 
 pub returns-in-Over-clause-held : goal.returns-in-Over-clause-held
 returns-in-Over-clause-held g c = λ snapshots recalls.
-    let setting = setting_of c.args.code.now c.args.case.now c.args.input.now in
-    let from = λ (turns : ℕ). held_from turns setting c.args.case.now.turns c.args.race.now c.args.first in
+    let system = machine_of (setting_of c.args.code.now c.args.case.now c.args.input.now) in
+    let from = λ (turns : ℕ). held_from turns system c.args.case.now.turns c.args.race.now c.args.first in
     let rest = c.from-most.result + 1 - (c.loop.counter + 1) in
     let so_far = c.loop.invariant.same snapshots recalls in
     let turn = rw c.in-Over.is at c.in_ok-next.ensures.held in
@@ -51,8 +52,8 @@ returns-in-Over-clause-ready g c =
 
 pub loop-preserved : goal.loop-preserved
 loop-preserved g c =
-    let setting = setting_of c.args.code.now c.args.case.now c.args.input.now in
-    let from = λ (turns : ℕ). held_from turns setting c.args.case.now.turns c.args.race.now c.args.first in
+    let system = machine_of (setting_of c.args.code.now c.args.case.now c.args.input.now) in
+    let from = λ (turns : ℕ). held_from turns system c.args.case.now.turns c.args.race.now c.args.first in
     let rest = c.from-most.result + 1 - (c.loop.counter + 1) in
     let turn = rw c.in-Onward.is at c.in_ok-next.ensures.held in
     let within = rw c.in-Onward.is at c.in_ok-next.ensures.within in
@@ -70,10 +71,10 @@ loop-preserved g c =
 
 pub returns-clause-held : goal.returns-clause-held
 returns-clause-held g c = λ snapshots recalls.
-    let setting = setting_of c.args.code.now c.args.case.now c.args.input.now in
-    let from = λ (turns : ℕ). held_from turns setting c.args.case.now.turns c.args.race.now c.args.first in
+    let system = machine_of (setting_of c.args.code.now c.args.case.now c.args.input.now) in
+    let from = λ (turns : ℕ). held_from turns system c.args.case.now.turns c.args.race.now c.args.first in
     let so_far = c.loop.invariant.same snapshots recalls in
-    hold-spent (c.from-most.result + 1 - c.loop.counter) setting c.args.case.now.turns c.args.race.now
+    hold-spent (c.from-most.result + 1 - c.loop.counter) system c.args.case.now.turns c.args.race.now
     c.args.first so_far.0 (course_of c.loop.course)
     (from (c.args.course.left + 1) snapshots (course_of c.args.course)) (omega arith) so_far.2
-    ∙ ap Ran (sym c.tell.ensures)
+    ∙ ap Ran (sym (c.tell.ensures (setting_of c.args.code.now c.args.case.now c.args.input.now)))

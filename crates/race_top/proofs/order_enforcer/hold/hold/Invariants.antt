@@ -2,6 +2,8 @@ use Rattle.std.proofs.Common.{◌≡◌, ◌+◌, ◌-◌, ◌≤◌, List}
 use Rattle.machine_model.specs.Hold.{held_from}
 use Rattle.machine_model.specs.Primary.{setting_of}
 use Rattle.machine_model.specs.Repeat.{Snapshot}
+use Rattle.machine_model.specs.System.{machine_of}
+use Rattle.machine_model.specs.declared.state.State.{State}
 use Rattle.concrete_machine.specs.Course.{IsOf, course_of}
 use Rattle.race_top.specs.declared.order_enforcer.hold.HoldAdvance.TheVariants.{Onward}
 use Rattle.race_top.specs.HoldTurn.{LeadsTo}
@@ -14,9 +16,9 @@ invariant-loop g l = record {
   turned : l.past.turns ≤ l.fn.past.turns + l.counter;
   left : l.course.left ≤ l.fn.course.left;
   of : IsOf l.code l.case l.course;
-  same : (snapshots : List Snapshot) → Recalls snapshots l.fn.past →
-      LeadsTo (held_from (l.most - l.counter) (setting_of l.code l.case l.input) l.case.turns l.race l.first)
+  same : (snapshots : List (Snapshot State)) → Recalls snapshots l.fn.past →
+      LeadsTo (held_from (l.most - l.counter) (machine_of (setting_of l.code l.case l.input)) l.case.turns l.race l.first)
       (Onward l.course l.past)
-      (held_from (l.fn.course.left + 1) (setting_of l.code l.case l.input) l.case.turns l.race l.first
+      (held_from (l.fn.course.left + 1) (machine_of (setting_of l.code l.case l.input)) l.case.turns l.race l.first
       snapshots (course_of l.fn.course));
 }

@@ -4,6 +4,7 @@ use Rattle.machine_model.specs.Moment.{from_turn, moments_from}
 use Rattle.machine_model.specs.Primary.{setting_of}
 use Rattle.machine_model.specs.Reach.{from_first, primary_moments}
 use Rattle.machine_model.specs.Repeat.{snapshot}
+use Rattle.machine_model.specs.System.{machine_of}
 use Rattle.concrete_machine.specs.Course.{IsOf, course_of}
 use Rattle.race_top.specs.Past.{Recalls}
 use Rattle.race_top.proofs.order_enforcer.point.find_point.Given as goal
@@ -14,7 +15,7 @@ invariant-loop g l =
     record {
       count : l.most ≡ l.case.steps + 1;
       rest : drop l.counter moments
-          ≡ moments_from (l.most - l.counter) (setting_of l.code l.case l.input) l.case.turns (course_of l.course);
+          ≡ moments_from (l.most - l.counter) (machine_of (setting_of l.code l.case l.input)) l.case.turns (course_of l.course);
       from : from_turn l.race.t1 l.number (drop l.counter moments) ≡ from_first l.race moments;
       past : Recalls (snapshots (take l.counter moments) ++ snapshot (course_of l.course) ∷ []) l.past;
       turns : l.past.turns ≡ l.counter;
