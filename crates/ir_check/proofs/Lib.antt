@@ -1,4 +1,5 @@
 mod Builds
+mod GlobalsApart
 mod Lists
 mod Numbers
 mod Runnable

@@ -1,8 +1,10 @@
 //! The check of all lines in their order.
 
-ghost use Rattle.std.specs.Prelude.{◌≡◌, ◌<◌, ◌^◌, length, IfOk};
+ghost use Rattle.std.specs.Prelude.{◌≡◌, ◌<◌, ◌^◌, length, map, IfOk};
 ghost use Rattle.std.specs.List.{list_any};
 ghost use Rattle.ir_check.specs.Check.{Gives, bad_line, module_of};
+ghost use Rattle.machine_model.specs.MemoryLaws.{AreApart};
+ghost use Rattle.machine_model.specs.Start.{object_of_global};
 ghost use Rattle.machine_model.specs.Runnable.{IsRunnable};
 ghost use Rattle.ir_check.specs.Names.{has_form, is_define_main};
 ghost use Rattle.ir_check.specs.declared.check.ModuleError.TheVariants.{NoMemory as OutOfMemory};
@@ -41,6 +43,7 @@ pub fn check_module<'a, 's>(alloc: Global, lines: &'a [Line<'s>]) -> Result<Modu
     requires { length lines.now < 2 ^ 32 }
     ensures exact { Gives result (module_of lines.now) }
     ensures runnable { IfOk result IsRunnable }
+    ensures apart { IfOk result (λ code. AreApart (map object_of_global code.globals)) }
 {
     if let Some(line) = bad_line(alloc, lines)? {
         return Err(ModuleError::Unsupported { line });

@@ -1,6 +1,9 @@
-use Rattle.std.proofs.Common.{subst, sym}
+use Rattle.std.proofs.Common.{map, subst, sym}
 use Rattle.ir_types.specs.declared.«module».Module.{Module}
+use Rattle.machine_model.specs.MemoryLaws.{AreApart}
+use Rattle.machine_model.specs.Start.{object_of_global}
 use Rattle.machine_model.specs.Runnable.{IsRunnable}
+use Rattle.ir_check.proofs.GlobalsApart.{globals_apart}
 use Rattle.ir_check.proofs.Runnable.{built_runnable}
 use Rattle.ir_check.proofs.check.check_module.Goals as goal
 
@@ -8,3 +11,8 @@ pub returns-clause-runnable : goal.returns-clause-runnable
 returns-clause-runnable c =
     let P : Module → Type 0 = λ found. IsRunnable found in
     subst P (sym c.in_ok-found.ensures) (built_runnable c.args.lines.now c.requires)
+
+pub returns-clause-apart : goal.returns-clause-apart
+returns-clause-apart c =
+    let P : Module → Type 0 = λ found. AreApart (map object_of_global found.globals) in
+    subst P (sym c.in_ok-found.ensures) (globals_apart c.args.lines.now)
