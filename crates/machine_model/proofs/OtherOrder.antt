@@ -2,12 +2,12 @@
 use Rattle.std.proofs.Common.{◌≡◌, ℕ, ◌+◌, List, Option, Some, None, refl, arith}
 use Rattle.machine_model.specs.declared.access.Access.{Access}
 use Rattle.machine_model.specs.Job.{held_course}
-use Rattle.machine_model.specs.OtherOrder.{OrderIsTurnedRound}
+use Rattle.machine_model.specs.OtherOrder.{HoldTurnsRound, OrderIsTurnedRound}
 use Rattle.machine_model.specs.Policy.{Choice, Policy, choose, releasing}
 use Rattle.machine_model.specs.Primary.{setting_of}
 use Rattle.machine_model.specs.Run.{Course}
 use Rattle.machine_model.specs.System.{System, machine_of}
-use Rattle.machine_model.specs.SystemLaws.{MayDo}
+use Rattle.machine_model.specs.SystemLaws.{IsSystem, MayDo}
 use Rattle.machine_model.proofs.HoldLaws.{ends-have_causes}
 use Rattle.machine_model.proofs.JobReplays.{hold-resumes, hold_point-is}
 use Rattle.machine_model.proofs.Machines.{machine-is_system}
@@ -32,22 +32,25 @@ released-first system listed held access course may = go (choose listed policy t
         absurd (choice-unless_none listed policy threads held none may.may_run refl)
     go (Some choice) found = (choice, found, (choice-released listed policy threads choice held refl found).0)
 
-pub order-is_turned_round : OrderIsTurnedRound
-order-is_turned_round code case race input point snapshots after is done =
-    let setting = setting_of code case input in
-    let system = machine_of setting in
+pub hold-turns_round : {S : Type 0} (system : System S) (facts : IsSystem system) → HoldTurnsRound system
+hold-turns_round system facts listed race point snapshots after may done =
+    let most = point.course.left + 1 in
     let course = held_course race.t1 point.course in
-    let causes = ends-have_causes system (point.course.left + 1) case.turns race point.first point.past course in
-    let resumes =
-    hold-resumes (point.course.left + 1) system (machine-is_system setting) case.turns race point.first point.past course
-    (omega arith) refl in
+    let causes = ends-have_causes system most listed race point.first point.past course in
+    let resumes = hold-resumes most system facts listed race point.first point.past course (omega arith) refl in
     let kept = rw done at resumes in
-    let may = kept.1 (hold_point-is code case race input point is).may_do in
-    let first = released-first system case.turns race.t1 point.first after may in
+    let still = kept.1 may in
+    let first = released-first system listed race.t1 point.first after still in
     record {
       second = rw done at causes;
       choice = first.0;
       chosen = first.1;
       is_first = first.2;
-      waits = may.waits;
+      waits = still.waits;
     }
+
+pub order-is_turned_round : OrderIsTurnedRound
+order-is_turned_round code case race input point snapshots after is =
+    let setting = setting_of code case input in
+    hold-turns_round (machine_of setting) (machine-is_system setting) case.turns race point snapshots after
+    (hold_point-is code case race input point is).may_do

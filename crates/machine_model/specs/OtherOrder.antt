@@ -14,6 +14,7 @@ use Rattle.machine_model.specs.Primary.{setting_of}
 use Rattle.machine_model.specs.Repeat.{Snapshot}
 use Rattle.machine_model.specs.Run.{Course}
 use Rattle.machine_model.specs.System.{System, machine_of}
+use Rattle.machine_model.specs.SystemLaws.{MayDo}
 
 -- the last turn of the hold did the second access, which overlaps the first; the next turn of the alternate is the
 -- held thread's, and it still waits to do the first
@@ -24,6 +25,14 @@ pub record IsTurnedRound {S : Type 0} (system : System S) (listed : List ℕ) (r
   pub is_first : choice.thread ≡ race.t1
   pub waits : access_of (system.pending after.state race.t1) ≡ Some point.first
 
+-- a hold that is done from a point on at which the held thread may do the first access
+abbrev pub HoldTurnsRound : {S : Type 0} → System S → Type 0
+HoldTurnsRound {S} system =
+    (listed : List ℕ) (race : Race) (point : HoldPoint S) (snapshots : List (Snapshot S)) (after : Course S) →
+    MayDo system point.course.state race.t1 point.first →
+    held_on system listed race point ≡ Done snapshots after → IsTurnedRound system listed race point snapshots after
+
+-- and that of a module and a case
 abbrev pub OrderIsTurnedRound : Type 0
 OrderIsTurnedRound =
     (code : Module) (case : Case) (race : Race) (input : Input) (point : HoldPoint State)

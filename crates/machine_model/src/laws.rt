@@ -11,14 +11,14 @@ ghost use Rattle.machine_model.specs.JobLaws.{MomentsAreTurns, UnrepeatedIsRun};
 ghost use Rattle.machine_model.specs.JobReplays.{AlternateReplays, PrimaryJobReplays};
 ghost use Rattle.machine_model.specs.Laws.{LargerBudgetKeepsRun, RunIsWithinBudget, RunNeedsNoMore, TurnNeedsNoMore};
 ghost use Rattle.machine_model.specs.MemoryLaws.{DeathKeepsApart, MomentsAreApart, OneHasRange, StoreKeepsApart, StoreKeepsExtents, StoreKeepsOtherBytes, StoredIsLoaded, TurnKeepsApart};
-ghost use Rattle.machine_model.specs.OtherOrder.{OrderIsTurnedRound};
+ghost use Rattle.machine_model.specs.OtherOrder.{HoldTurnsRound, OrderIsTurnedRound};
 ghost use Rattle.machine_model.specs.PendingLaws.{MomentsArePending, StartedArePending, TurnKeepsPending};
 ghost use Rattle.machine_model.specs.PolicyLaws.{ChoiceIsEnabled, ChoiceIsLast, ChoosesUnlessNone, ListedIsChosen, ReleaseKeepsPlace, TakesTurns};
 ghost use Rattle.machine_model.specs.RaceExample.{both_turns, first_turns, leaving_alternate, ordered_alternate, other_order, printed_byte, prints, recorded_order, turned_by_numbers, turned_round, up_to_join};
 ghost use Rattle.machine_model.specs.RepeatLaws.{EarlierTurnIsPower, SamePolicyIsEqual, SameStateIsEqual};
 ghost use Rattle.machine_model.specs.ReplayLaws.{TurnsGiveTheRun};
 ghost use Rattle.machine_model.specs.Setting.{Setting};
-ghost use Rattle.machine_model.specs.System.{machine_of};
+ghost use Rattle.machine_model.specs.System.{System, machine_of};
 ghost use Rattle.machine_model.specs.SystemLaws.{IsSystem};
 ghost use Rattle.machine_model.specs.declared.run.Outcome.TheVariants.{Exit, Spent};
 ghost use Rattle.machine_model.specs.declared.run.Reason.TheVariants.{Ended, Stuck};
@@ -28,6 +28,20 @@ ghost use Rattle.machine_model.specs.declared.run.Reason.TheVariants.{Ended, Stu
 /// an access is left so by the turns of the others.
 pub fn machine_is_system()
     ensures { (setting : Setting) → IsSystem (machine_of setting) }
+{}
+
+/// The laws of runs, their moments, their turns given again, and holds, of each system whatever its states are.
+/// Beside them stand those of the machine of threads.
+pub fn systems_have_laws<S>()
+    ensures bound { (system : System S) → IsSystem system → RunNeedsNoMore system }
+    ensures within { (system : System S) → IsSystem system → RunIsWithinBudget system }
+    ensures larger { (system : System S) → IsSystem system → LargerBudgetKeepsRun system }
+    ensures moments { (system : System S) → MomentsAreTurns system }
+    ensures unrepeated { (system : System S) → UnrepeatedIsRun system }
+    ensures again { (system : System S) → TurnsGiveTheRun system }
+    ensures waits { (system : System S) → HeldThreadWaits system }
+    ensures causes { (system : System S) → EndsHaveCauses system }
+    ensures order { (system : System S) → IsSystem system → HoldTurnsRound system }
 {}
 
 /// The bounds by which turns and runs are defined are no part of their meaning.
