@@ -16,9 +16,10 @@ use Rattle.machine_model.specs.declared.run.Run.{Run}
 use Rattle.machine_model.specs.declared.run.TurnEnd.{TurnEnd}
 use Rattle.machine_model.specs.declared.run.TurnEnd.TheVariants as ends
 use Rattle.machine_model.specs.declared.state.State.{State}
+use Rattle.machine_model.specs.Begun.{released_course}
 use Rattle.machine_model.specs.Hold.{Held, held_from, held_over}
 use Rattle.machine_model.specs.Hold.Held.{Done, NotEnforced, Ran}
-use Rattle.machine_model.specs.Job.{HeldOn, HoldPoint, alternate_after, held_course, held_on, hold_point, point_at, point_in, released_course, snapshots}
+use Rattle.machine_model.specs.Job.{HeldOn, HoldPoint, held_course, held_on, hold_point, point_at, point_in, snapshots}
 use Rattle.machine_model.specs.Job.Alternate.{Runs}
 use Rattle.machine_model.specs.JobLaws.{IsRepeat}
 use Rattle.machine_model.specs.JobReplays.{AlternateReplays, PrimaryJobReplays}
@@ -32,6 +33,8 @@ use Rattle.machine_model.specs.Run.Advance.{Onward, Over}
 use Rattle.machine_model.specs.System.{System, machine_of}
 use Rattle.machine_model.specs.SystemLaws.{IsSystem, MayDo}
 use Rattle.machine_model.specs.TestedRun.{tested_on}
+use Rattle.machine_model.specs.WholeAlternate.{alternate_after}
+use Rattle.machine_model.proofs.Alternates.{alternate-is_whole}
 use Rattle.machine_model.proofs.Cases.{by_test}
 use Rattle.machine_model.proofs.HoldCases.{IsTurn, LeadsTo, each-hold}
 use Rattle.machine_model.proofs.HoldLaws.{other-thread, still-held}
@@ -285,8 +288,12 @@ pub alternate-replays : AlternateReplays
 unfolding HeldOn
 alternate-replays code case race input run is never =
     let setting = setting_of code case input in
-    held-returns (machine_of setting) (machine-is_system setting) case.turns race case.steps run
-    (Reaches code case race input) (hold_point code case race input) (hold_point-is code case race input) is never
+    let system = machine_of setting in
+    let facts = machine-is_system setting in
+    let whole = alternate-is_whole system facts case.turns race (HeldOn code case race input) in
+    held-returns system facts case.turns race case.steps run
+    (Reaches code case race input) (hold_point code case race input) (hold_point-is code case race input)
+    (sym whole ∙ is) never
 
 pub primary_job-replays : PrimaryJobReplays
 primary_job-replays code case input never =

@@ -1,4 +1,5 @@
 pub mod Accounts
+pub mod Alternates
 pub mod Apart
 pub mod Budget
 pub mod Bytes

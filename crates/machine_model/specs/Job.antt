@@ -9,10 +9,11 @@ use Rattle.machine_model.specs.declared.race.Race.{Race}
 use Rattle.machine_model.specs.declared.run.Reason.{Reason}
 use Rattle.machine_model.specs.declared.run.Run.{Run}
 use Rattle.machine_model.specs.declared.state.State.{State}
+use Rattle.machine_model.specs.Begun.{Begun, begun_after}
+use Rattle.machine_model.specs.Begun.Begun.{Ready, NotBegun, Complete}
 use Rattle.machine_model.specs.Hold.{Held, held_from}
-use Rattle.machine_model.specs.Hold.Held.{Done, NotEnforced, Ran}
 use Rattle.machine_model.specs.Moment.{Moment, access_at}
-use Rattle.machine_model.specs.Policy.{holding, releasing}
+use Rattle.machine_model.specs.Policy.{holding}
 use Rattle.machine_model.specs.Primary.{setting_of}
 use Rattle.machine_model.specs.Reach.{Reaches, from_first, primary_moments}
 use Rattle.machine_model.specs.Repeat.{Snapshot, snapshot}
@@ -71,18 +72,22 @@ pub data Alternate : Type 0 where
   -- the primary of the input does not reach the race
   Absent : Alternate
 
-abbrev pub released_course : {S : Type 0} → ℕ → Course S → Course S
-released_course thread course = record course { policy = releasing thread course.policy }
+-- the hold with the first thread's turn after it, where the primary of this input reaches the race
+abbrev pub BegunOn : Module → Case → Race → Input → Option (Begun State)
+BegunOn code case race input =
+    option_map (begun_after (machine_of (setting_of code case input)) case.turns race) (HeldOn code case race input)
 
--- after the hold the first thread takes one turn, and the recorded turns are followed again
-abbrev pub alternate_after : {S : Type 0} → System S → List ℕ → Race → Option (Held S) → Alternate
-alternate_after system listed race None = Absent
-alternate_after system listed race (Some (Done past course)) =
-    Runs (tested_on system listed past (released_course race.t1 course))
-alternate_after system listed race (Some (NotEnforced reason course)) = Not reason course.turns
-alternate_after system listed race (Some (Ran run)) = Runs run
+-- the rest by the one schedule that there is, which follows the recorded turns again
+abbrev pub finished : {S : Type 0} → System S → List ℕ → List (Snapshot S) → Course S → Run
+finished system listed past course = tested_on system listed past course
+
+abbrev pub alternate_from : {S : Type 0} → System S → List ℕ → Option (Begun S) → Alternate
+alternate_from system listed None = Absent
+alternate_from system listed (Some (Ready past course)) = Runs (finished system listed past course)
+alternate_from system listed (Some (NotBegun reason course)) = Not reason course.turns
+alternate_from system listed (Some (Complete run)) = Runs run
 
 -- the alternate of this input whose schedule follows the recorded turns
 abbrev pub AlternateJob : Module → Case → Race → Input → Alternate
 AlternateJob code case race input =
-    alternate_after (machine_of (setting_of code case input)) case.turns race (HeldOn code case race input)
+    alternate_from (machine_of (setting_of code case input)) case.turns (BegunOn code case race input)

@@ -1,4 +1,5 @@
 pub mod Access
+pub mod Begun
 pub mod Call
 pub mod Code
 pub mod Decision
@@ -38,3 +39,4 @@ pub mod SystemLaws
 pub mod TestedRun
 pub mod Thread
 pub mod Turn
+pub mod WholeAlternate

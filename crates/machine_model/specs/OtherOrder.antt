@@ -6,9 +6,10 @@ use Rattle.machine_model.specs.declared.case.Case.{Case}
 use Rattle.machine_model.specs.declared.race.Race.{Race}
 use Rattle.machine_model.specs.declared.state.State.{State}
 use Rattle.machine_model.specs.Access.{access_of}
+use Rattle.machine_model.specs.Begun.{released_course}
 use Rattle.machine_model.specs.Hold.Held.{Done}
 use Rattle.machine_model.specs.HoldLaws.{DidSecond}
-use Rattle.machine_model.specs.Job.{HoldPoint, held_course, held_on, hold_point, released_course}
+use Rattle.machine_model.specs.Job.{HoldPoint, held_course, held_on, hold_point}
 use Rattle.machine_model.specs.Policy.{Choice, choose}
 use Rattle.machine_model.specs.Primary.{setting_of}
 use Rattle.machine_model.specs.Repeat.{Snapshot}

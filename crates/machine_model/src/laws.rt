@@ -20,6 +20,7 @@ ghost use Rattle.machine_model.specs.ReplayLaws.{TurnsGiveTheRun};
 ghost use Rattle.machine_model.specs.Setting.{Setting};
 ghost use Rattle.machine_model.specs.System.{System, machine_of};
 ghost use Rattle.machine_model.specs.SystemLaws.{IsSystem};
+ghost use Rattle.machine_model.specs.WholeAlternate.{AlternateIsWhole};
 ghost use Rattle.machine_model.specs.declared.run.Outcome.TheVariants.{Exit, Spent};
 ghost use Rattle.machine_model.specs.declared.run.Reason.TheVariants.{Ended, Stuck};
 
@@ -42,6 +43,7 @@ pub fn systems_have_laws<S>()
     ensures waits { (system : System S) → HeldThreadWaits system }
     ensures causes { (system : System S) → EndsHaveCauses system }
     ensures order { (system : System S) → IsSystem system → HoldTurnsRound system }
+    ensures whole { (system : System S) → IsSystem system → AlternateIsWhole system }
 {}
 
 /// The bounds by which turns and runs are defined are no part of their meaning.
@@ -104,6 +106,12 @@ pub fn hold_enforces_the_order()
 /// overlaps.
 pub fn order_is_turned_round()
     ensures { OrderIsTurnedRound }
+{}
+
+/// An alternate that stops after the first thread's turn behind the hold, and goes on from there, is the alternate
+/// that goes on from the hold without a stop.
+pub fn alternates_are_whole()
+    ensures { (setting : Setting) → AlternateIsWhole (machine_of setting) }
 {}
 
 /// The turns of a job's run, recorded, give the same run again, also where a thread was held on the way. Only a run

@@ -9,9 +9,9 @@ use Rattle.machine_model.specs.declared.race.Race.{Race}
 use Rattle.machine_model.specs.declared.run.Reason.{Reason}
 use Rattle.machine_model.specs.declared.run.Run.{Run}
 use Rattle.machine_model.specs.declared.state.State.{State}
-use Rattle.machine_model.specs.Hold.{Held}
-use Rattle.machine_model.specs.Hold.Held.{Done, NotEnforced, Ran}
-use Rattle.machine_model.specs.Job.{Alternate, AlternateJob, HeldOn, HoldPoint, PrimaryJob, alternate_after, held_on, hold_point, point_in}
+use Rattle.machine_model.specs.Begun.{Begun, begun_after}
+use Rattle.machine_model.specs.Begun.Begun.{Complete, NotBegun, Ready}
+use Rattle.machine_model.specs.Job.{Alternate, AlternateJob, HeldOn, HoldPoint, PrimaryJob, alternate_from, held_on, hold_point, point_in}
 use Rattle.machine_model.specs.Job.Alternate.{Runs, Not, Absent}
 use Rattle.machine_model.specs.Moment.{Moment, access_at}
 use Rattle.machine_model.specs.Primary.{setting_of}
@@ -58,11 +58,11 @@ point-reached code case race input reaches =
     (from_first race (primary_moments code case input)) reaches
 
 -- and so its alternate is not absent
-after-held : {S : Type 0} (system : System S) (listed : List ℕ) (race : Race) (held : Held S) →
-    alternate_after system listed race (Some held) ≢ Absent
-after-held system listed race (Done past course) absent = let h : ⊥ = cc in h
-after-held system listed race (NotEnforced reason course) absent = let h : ⊥ = cc in h
-after-held system listed race (Ran run) absent = let h : ⊥ = cc in h
+from-begun : {S : Type 0} (system : System S) (listed : List ℕ) (begun : Begun S) →
+    alternate_from system listed (Some begun) ≢ Absent
+from-begun system listed (Ready past course) absent = let h : ⊥ = cc in h
+from-begun system listed (NotBegun reason course) absent = let h : ⊥ = cc in h
+from-begun system listed (Complete run) absent = let h : ⊥ = cc in h
 
 present : (code : Module) (case : Case) (race : Race) (input : Input) → Reaches code case race input ≡ true →
     AlternateJob code case race input ≢ Absent
@@ -76,7 +76,8 @@ present code case race input reaches = go (hold_point code case race input) refl
         AlternateJob code case race input ≢ Absent
     go None is absent = point-reached code case race input reaches is
     go (Some point) is absent =
-        after-held system case.turns race (held_on system case.turns race point) (rw (reaches, is) at absent)
+        from-begun system case.turns (begun_after system case.turns race (held_on system case.turns race point))
+        (rw (reaches, is) at absent)
 
 kind-present : (alternate : Alternate) → alternate ≢ Absent → kind_of alternate ≢ kinds.Absent
 kind-present (Runs run) some absent = let h : ⊥ = cc in h

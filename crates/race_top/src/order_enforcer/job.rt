@@ -2,7 +2,8 @@
 
 ghost use Rattle.std.specs.Prelude.{◌≡◌, ◌+◌, ◌*◌, ◌<◌, ◌^◌, IfOk, Some, true};
 ghost use Rattle.machine_model.specs.Hold.{Held};
-ghost use Rattle.machine_model.specs.Job.{AlternateJob, PrimaryJob, alternate_after};
+ghost use Rattle.machine_model.specs.Begun.{begun_after};
+ghost use Rattle.machine_model.specs.Job.{AlternateJob, PrimaryJob, alternate_from};
 ghost use Rattle.machine_model.specs.Primary.{setting_of};
 ghost use Rattle.machine_model.specs.Reach.{Reaches};
 ghost use Rattle.machine_model.specs.Runnable.{IsRunnable};
@@ -16,6 +17,7 @@ use crate::order_enforcer::point::{Point, find_point};
 use crate::order_enforcer::tested::run_tested;
 use concrete_machine::Course;
 use ir_types::{Input, Module};
+use machine_model::laws::alternates_are_whole;
 use machine_model::{Case, Race, Reason, Run, Turns};
 use rc_base::{NoMemory, Steps};
 use std::alloc::Global;
@@ -81,8 +83,10 @@ fn after_hold<L: Ledger>(
     requires ready { IsReady code.now case.now case.now.steps (2 * case.now.steps + 2) enforced }
     ensures { IfOk result (λ alternate. (held : Held State) → Enforces enforced held →
         alternate_of alternate
-        ≡ alternate_after (machine_of (setting_of code.now case.now input.now)) case.now.turns race.now (Some held)) }
+        ≡ alternate_from (machine_of (setting_of code.now case.now input.now)) case.now.turns
+        (Some (begun_after (machine_of (setting_of code.now case.now input.now)) case.now.turns race.now held))) }
 {
+    alternates_are_whole();
     match enforced {
         Enforced::Ready { mut course, past } => {
             course.policy.after(race.t1);

@@ -1,3 +1,4 @@
+use Rattle.machine_model.proofs.Alternates.{alternate-is_whole}
 use Rattle.machine_model.proofs.Budget.{run_of-agrees, run_of-within}
 use Rattle.machine_model.proofs.HoldLaws.{ends-have_causes, held-waits}
 use Rattle.machine_model.proofs.Larger.{run_of-lasts}
@@ -24,4 +25,5 @@ returns g c = record {
   waits = λ system. held-waits system;
   causes = λ system. ends-have_causes system;
   order = λ system facts. hold-turns_round system facts;
+  whole = λ system facts. alternate-is_whole system facts;
 }
