@@ -5,6 +5,7 @@ use Rattle.std.specs.Prelude.{◌&&◌, IsTrue}
 use Rattle.std.proofs.lemmas.Bool.{false≢true}
 use Rattle.std.proofs.lemmas.Bool.Decides.{Decides-and, Decides-eqb, Decides-like}
 use Rattle.std.proofs.lemmas.Slice.Eq.{slice_eq-Decides}
+use Rattle.std.proofs.lemmas.List.Elements.{All-cons, All-nil}
 use denote.Enum.Bare.{same_true, sameb, true_same}
 use Rattle.ir_types.specs.contracts.external.ItemKind as item_kind
 use Rattle.ir_types.specs.declared.external.ItemKind.{ItemKind}
@@ -27,10 +28,11 @@ use Rattle.race_verdict.specs.declared.result.JobResult.{JobResult}
 use Rattle.race_verdict.specs.declared.result.Judged.{Judged}
 use Rattle.race_verdict.specs.declared.result.Judged.TheVariants.{Admitted, Never, NotJudged}
 use Rattle.race_verdict.specs.declared.verdict.HarmlessRun.{HarmlessRun}
-use Rattle.race_verdict.specs.declared.verdict.Verdict.TheVariants.{SpecViolated, OutputDiffers, Unresolved, Harmless}
+use Rattle.race_verdict.specs.declared.verdict.Verdict.{Verdict}
+use Rattle.race_verdict.specs.declared.verdict.Verdict.TheVariants.{SpecViolated, SingleOrdering, OutputDiffers, Unresolved, Harmless}
 use Rattle.race_verdict.specs.Verdict.{VerdictOf, difference, distinct, exits, violates}
-use Rattle.race_top.specs.AnalyserPool.{judged_of, kind_of, results_of, same_output}
-use Rattle.race_top.specs.Evidence.{BothExit, ClassesHaveEvidence, HasEvidence, IsRunOfJob}
+use Rattle.race_top.specs.AnalyserPool.{job_numbers, jobs_of, judged_of, kind_of, results_of, same_output}
+use Rattle.race_top.specs.Evidence.{BothExit, ClassesHaveEvidence, IsInputOf, IsRunOfJob, RaceHasEvidence, ShowsAdmitted}
 use Rattle.race_top.proofs.JobResults.{jobs-asked}
 use Rattle.race_top.proofs.RaceReached.{recorded-run-reaches}
 
@@ -71,26 +73,34 @@ module _ (code : Module) (case : Case) (race : Race) where
   abbrev IsAlternate : Run → Type 0
   IsAlternate alternate = AlternateJob code case race case.input ≡ Runs alternate
 
-  primary-job : {run : Run} → IsPrimary run → IsRunOfJob code case race 0 0 case.input run
-  primary-job first = record { recorded_path = refl; recorded_input = refl; either = inl (refl, first) }
+  abbrev Has : Verdict → Type 0
+  Has = RaceHasEvidence code case race
 
-  alternate-job : {run : Run} → IsAlternate run → IsRunOfJob code case race 0 1 case.input run
-  alternate-job second = record { recorded_path = refl; recorded_input = refl; either = inr (refl, second) }
+  abbrev IsJob : ℕ → Run → Type 0
+  IsJob schedule run =
+      IsRunOfJob (jobs_of code case race) (IsInputOf case) job_numbers 0 schedule case.input run
+
+  primary-job : {run : Run} → IsPrimary run → IsJob 0 run
+  primary-job first = record { is_listed = (0, omega arith, refl); on_path = refl; either = inl (refl, first) }
+
+  alternate-job : {run : Run} → IsAlternate run → IsJob 1 run
+  alternate-job second =
+      record { is_listed = (1, omega arith, refl); on_path = refl; either = inr (omega arith, second) }
 
   -- a job that violates, or spends its budget
   violated : (schedule : ℕ) (run : Run) (outcome : Outcome) →
-      IsRunOfJob code case race 0 schedule case.input (ending run outcome) → IsTrue (violates outcome) →
-      HasEvidence code case race (SpecViolated 0 schedule case.input run.turns outcome)
+      IsJob schedule (ending run outcome) → IsTrue (violates outcome) →
+      Has (SpecViolated 0 schedule case.input run.turns outcome)
   violated schedule run outcome job ends =
       record { run = ending run outcome; job = job; turns_are = refl; ends = (refl, ends) }
 
-  spent : (schedule : ℕ) (run : Run) → IsRunOfJob code case race 0 schedule case.input (ending run Spent) →
-      HasEvidence code case race (Unresolved 0 schedule case.input run.turns)
+  spent : (schedule : ℕ) (run : Run) → IsJob schedule (ending run Spent) →
+      Has (Unresolved 0 schedule case.input run.turns)
   spent schedule run job = record { run = ending run Spent; job = job; turns_are = refl; ends = refl }
 
   -- both jobs exit
   both-exit : (primary alternate : Run) → IsPrimary primary → IsAlternate alternate →
-      IsTrue (exits primary.outcome) → IsTrue (exits alternate.outcome) → BothExit code case race alternate
+      IsTrue (exits primary.outcome) → IsTrue (exits alternate.outcome) → BothExit (jobs_of code case race) 1 case.input alternate
   both-exit primary alternate first second one two = record {
     second = second;
     first_exits = ap (λ (run : Run). exits run.outcome) first ∙ one;
@@ -99,13 +109,13 @@ module _ (code : Module) (case : Case) (race : Race) where
 
   differing : (primary alternate : Run) → IsPrimary primary → IsAlternate alternate →
       IsTrue (exits primary.outcome) → IsTrue (exits alternate.outcome) → alternate.output ≢ primary.output →
-      HasEvidence code case race
+      Has
       (OutputDiffers 0 1 case.input primary.turns primary.output alternate.turns alternate.output)
   differing primary alternate first second one two differ = record {
     alternate = alternate;
     both = both-exit primary alternate first second one two;
     job = alternate-job second;
-    is_alternate = refl;
+    is_alternate = omega arith;
     primary_turns = ap (λ (run : Run). run.turns) first;
     primary_prints = ap (λ (run : Run). run.output) first;
     alternate_turns = refl;
@@ -126,39 +136,47 @@ module _ (code : Module) (case : Case) (race : Race) where
 
   admitted : (primary alternate : Run) → IsPrimary primary → IsAlternate alternate →
       IsTrue (exits primary.outcome) → IsTrue (exits alternate.outcome) → primary.output ≡ alternate.output →
-      HasEvidence code case race (Harmless (one_run alternate ∷ []))
-  admitted primary alternate first second one two same = (
-    one_run alternate,
-    refl,
-    record {
-      alternate = alternate;
-      both = both-exit primary alternate first second one two;
-      job = alternate-job second;
-      is_alternate = refl;
-      turns_are = refl;
-      prints = refl;
-      admitted = refl;
-      primary_prints = ap (λ (run : Run). run.output) first ∙ same;
-    },
-  )
+      Has (Harmless (one_run alternate ∷ []))
+  unfolding distinct
+  admitted primary alternate first second one two same = record {
+    some = λ none. let h : ⊥ = cc in h;
+    shown = All-cons (ShowsAdmitted (jobs_of code case race) (IsInputOf case) job_numbers)
+        (one_run alternate) []
+        (record {
+          alternate = alternate;
+          both = both-exit primary alternate first second one two;
+          job = alternate-job second;
+          is_alternate = omega arith;
+          turns_are = refl;
+          prints = refl;
+          admitted = refl;
+          primary_prints = ap (λ (run : Run). run.output) first ∙ same;
+        }) (All-nil (ShowsAdmitted (jobs_of code case race) (IsInputOf case) job_numbers));
+    apart = refl;
+  }
+
+  reasoned : (reason : Reason) (turns : List ℕ) → AlternateJob code case race case.input ≡ Not reason turns →
+      Has (SingleOrdering reason turns)
+  reasoned reason turns second =
+      record { input = case.input; is_listed = (1, omega arith, refl); on_path = refl; answers = second }
 
   -- where the hold gives a reason, the class is the primary's violation or that reason
   held : (primary : Run) (one : Outcome) (reason : Reason) (turns : List ℕ) → IsPrimary (ending primary one) →
       AlternateJob code case race case.input ≡ Not reason turns →
-      HasEvidence code case race (VerdictOf (results case.input (ending primary one) (kinds.Not reason turns) NotJudged))
+      Has (VerdictOf (results case.input (ending primary one) (kinds.Not reason turns) NotJudged))
   unfolding VerdictOf
-  held primary (Exit status) reason turns first second = second
+  held primary (Exit status) reason turns first second = reasoned reason turns second
   held primary (Trap trap thread site) reason turns first second =
       violated 0 primary (Trap trap thread site) (primary-job first) refl
   held primary Deadlock reason turns first second = violated 0 primary Deadlock (primary-job first) refl
   held primary (Repeats turn earlier) reason turns first second =
       violated 0 primary (Repeats turn earlier) (primary-job first) refl
-  held primary Spent reason turns first second = second
+  held primary Spent reason turns first second = reasoned reason turns second
 
   -- where both jobs run, by how they end
   ran : (primary alternate : Run) (one two : Outcome) (same : Bool) → IsPrimary (ending primary one) →
       IsAlternate (ending alternate two) → Decides same (primary.output ≡ alternate.output) →
-      HasEvidence code case race
+      Has
       (VerdictOf
       (results case.input (ending primary one) (kinds.Ran (ending alternate two)) (judged_by case.input one two same)))
   unfolding VerdictOf difference distinct
@@ -202,7 +220,7 @@ module _ (code : Module) (case : Case) (race : Race) where
 
   shown : (primary : Run) (alternate : Alternate) → IsPrimary primary →
       AlternateJob code case race case.input ≡ alternate → kind_of alternate ≢ kinds.Absent →
-      HasEvidence code case race
+      Has
       (VerdictOf (results case.input primary (kind_of alternate) (judged_of case.input primary alternate)))
   shown primary (Runs run) first second some =
       ran primary run primary.outcome run.outcome (same_output primary.output run.output) first second

@@ -1,5 +1,5 @@
--- The class of a race on the recorded path, with the schedule that follows the recorded turns.
-use Rattle.std.specs.Prelude.{Bool, ◌&&◌, List, [], ◌∷◌, if◌then◌else◌, map}
+-- The results of a race's jobs, and the class that they give it.
+use Rattle.std.specs.Prelude.{ℕ, zero, suc, Bool, ◌&&◌, List, if◌then◌else◌, map}
 use Rattle.std.specs.Cmp.Lexicographic.{pointwise}
 use Rattle.ir_types.specs.declared.input.Input.{Input}
 use Rattle.ir_types.specs.declared.«module».Module.{Module}
@@ -16,6 +16,7 @@ use Rattle.race_verdict.specs.declared.result.JobResult.{JobResult}
 use Rattle.race_verdict.specs.declared.result.Judged.{Judged}
 use Rattle.race_verdict.specs.declared.result.Judged.TheVariants.{Admitted, Never, NotJudged}
 use Rattle.race_verdict.specs.declared.verdict.Verdict.{Verdict}
+use Rattle.race_verdict.specs.Results.{jobs_from}
 use Rattle.race_verdict.specs.Verdict.{VerdictOf, exits}
 use Rattle.report_text.specs.declared.report.RaceReport.{RaceReport}
 
@@ -39,19 +40,46 @@ kind_of (Runs run) = kinds.Ran run
 kind_of (Not reason turns) = kinds.Not reason turns
 kind_of Absent = kinds.Absent
 
--- the results of the two jobs, in order
+-- what gives the runs by which a race is judged: the primary of an input, and its alternate by the schedule's number
+pub record Jobs : Type 0 where
+  pub primary : Input → Run
+  pub alternate : Input → ℕ → Alternate
+
+-- of a race of a case. Number 1 is the schedule that follows the recorded turns; there is no other yet
+abbrev pub jobs_of : Module → Case → Race → Jobs
+jobs_of code case race = record {
+  primary = PrimaryJob code case;
+  alternate = λ input schedule. AlternateJob code case race input;
+}
+
+-- schedule 0 of a path is its primary
+abbrev pub job_kind : Jobs → Input → ℕ → JobKind
+job_kind jobs input zero = kinds.Ran (jobs.primary input)
+job_kind jobs input (suc before) = kind_of (jobs.alternate input (suc before))
+
+abbrev pub job_judged : Jobs → Input → ℕ → Judged
+job_judged jobs input zero = NotJudged
+job_judged jobs input (suc before) = judged_of input (jobs.primary input) (jobs.alternate input (suc before))
+
+-- the result of the job of a path and a schedule, from the input of each path
+abbrev pub result_of : Jobs → (ℕ → Input) → ℕ × ℕ → JobResult
+result_of jobs input_of job =
+    let input = input_of job.0 in
+    record {
+      path = job.0;
+      schedule = job.1;
+      input = input;
+      kind = job_kind jobs input job.1;
+      judged = job_judged jobs input job.1;
+    }
+
+-- the jobs: of one path, which is the recorded one, with one schedule
+abbrev pub job_numbers : List (ℕ × ℕ)
+job_numbers = jobs_from 1 0 1
+
+-- the results of the jobs, in order; the recorded path's input is the case's
 unfoldable pub results_of : Module → Case → Race → List JobResult
-results_of code case race =
-    let primary = PrimaryJob code case case.input in
-    let alternate = AlternateJob code case race case.input in
-    record { path = 0; schedule = 0; input = case.input; kind = kinds.Ran primary; judged = NotJudged }
-    ∷ record {
-      path = 0;
-      schedule = 1;
-      input = case.input;
-      kind = kind_of alternate;
-      judged = judged_of case.input primary alternate;
-    } ∷ []
+results_of code case race = map (result_of (jobs_of code case race) (λ path. case.input)) job_numbers
 
 -- the class of the race, with its evidence
 abbrev pub ClassOf : Module → Case → Race → Verdict
