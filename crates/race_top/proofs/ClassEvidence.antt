@@ -134,6 +134,9 @@ module _ (code : Module) (case : Case) (race : Race) where
     admitted = case.input;
   }
 
+  same-turns : (one other : Run) → Runs one ≡ Runs other → one.turns ≡ other.turns
+  same-turns one other same = let equal : one ≡ other = cc in ap (λ (run : Run). run.turns) equal
+
   admitted : (primary alternate : Run) → IsPrimary primary → IsAlternate alternate →
       IsTrue (exits primary.outcome) → IsTrue (exits alternate.outcome) → primary.output ≡ alternate.output →
       Has (Harmless (one_run alternate ∷ []))
@@ -153,6 +156,11 @@ module _ (code : Module) (case : Case) (race : Race) where
           primary_prints = ap (λ (run : Run). run.output) first ∙ same;
         }) (All-nil (ShowsAdmitted (jobs_of code case race) (IsInputOf case) job_numbers));
     apart = refl;
+    whole = λ path schedule among later. (
+      case.input,
+      refl,
+      λ run is ends. (one_run alternate, (0, omega arith, refl), refl, same-turns alternate run (sym second ∙ is)),
+    );
   }
 
   reasoned : (reason : Reason) (turns : List ℕ) → AlternateJob code case race case.input ≡ Not reason turns →

@@ -67,11 +67,19 @@ pub record ShowsAdmitted (jobs : Jobs) (IsInput : ℕ → Input → Type 0) (lis
   pub admitted : IsInput run.path run.admitted
   pub primary_prints : (jobs.primary run.admitted).output ≡ run.output
 
--- there are such runs, and no two have one input and the same turns
+-- the alternate, where it exits, has the input and the turns of one of the runs
+abbrev pub IsAmong : Jobs → ℕ → Input → List HarmlessRun → Type 0
+IsAmong jobs schedule input runs =
+    (alternate : Run) → jobs.alternate input schedule ≡ Runs alternate → IsTrue (exits alternate.outcome) →
+    (run : HarmlessRun) × Contains runs run × (run.input ≡ input) × (run.turns ≡ alternate.turns)
+
+-- there are such runs, no two have one input and the same turns, and no listed alternate that exits is left out
 pub record ShowsHarmless (jobs : Jobs) (IsInput : ℕ → Input → Type 0) (listed : List (ℕ × ℕ)) (runs : List HarmlessRun) : Type 0 where
   pub some : runs ≢ []
   pub shown : All (ShowsAdmitted jobs IsInput listed) runs
   pub apart : distinct runs ≡ runs
+  pub whole : (path schedule : ℕ) → Contains listed (path, schedule) → 0 < schedule →
+      (input : Input) × IsInput path input × IsAmong jobs schedule input runs
 
 -- the runs that show a class
 abbrev pub HasEvidence : Jobs → (ℕ → Input → Type 0) → List (ℕ × ℕ) → Verdict → Type 0
