@@ -1,7 +1,7 @@
 -- What a visible instruction does, by its kind, and what is cut.
-use Rattle.std.proofs.Common.{◌≡◌, ℕ, ◌≤◌, true, false, cond, leb, List, [], map, Option, Some, None, ◌-◌, ◌++◌, length, refl, sym, ap, ◌∙◌, subst, arith}
+use Rattle.std.proofs.Common.{◌≡◌, ℕ, ◌+◌, ◌<◌, ◌≤◌, false, cond, List, [], map, Option, Some, None, ◌-◌, ◌++◌, length, refl, sym, ap, ◌∙◌, subst, arith}
 use Rattle.std.specs.Prelude.{slice_get}
-use Rattle.std.proofs.lemmas.Bool.{le-leb}
+use Rattle.std.proofs.lemmas.Bool.{lt-ltb}
 use Rattle.ir_types.specs.declared.external.Extern.{Extern}
 use Rattle.ir_types.specs.declared.external.Extern.TheVariants.{Putchar}
 use Rattle.ir_types.specs.declared.instruction.Inst.{Inst}
@@ -14,16 +14,16 @@ use Rattle.machine_model.specs.declared.state.State.{State}
 use Rattle.machine_model.specs.declared.state.Thread.{Thread}
 use Rattle.machine_model.specs.Code.{Placed}
 use Rattle.machine_model.specs.Call.{call_of, is_blocked}
-use Rattle.machine_model.specs.Decision.{outcomes_of}
+use Rattle.machine_model.specs.Decision.{numbers_of}
 use Rattle.machine_model.specs.Effect.{Effect, mapped}
 use Rattle.machine_model.specs.Effect.Effect.{Done, Pauses, Exits, Traps, Blocks, NoRow}
 use Rattle.machine_model.specs.Instruction.{effect_of}
-use Rattle.machine_model.specs.Operation.{charged_for_items, footprint_of, made_by, put_back, returned, visible_effect}
+use Rattle.machine_model.specs.Operation.{charged_for_items, footprint_of, made_by, put_back, after_call, visible_effect}
 use Rattle.machine_model.specs.Setting.{Setting}
 use Rattle.machine_model.specs.Shared.{shared_of}
 use Rattle.machine_model.specs.Thread.{top, value_of}
 use Rattle.machine_model.specs.Step.{first_step_at, first_step_in}
-use Rattle.machine_model.specs.Turn.{Move, charged, paid, stops}
+use Rattle.machine_model.specs.Turn.{Move, afforded, charged, cost_of_effect, led_by, paid, stopped}
 use Rattle.concrete_machine.specs.declared.operation.Action.{Action}
 use Rattle.concrete_machine.specs.Call.{frames_of, items_of_call}
 use Rattle.concrete_machine.specs.Code.{next_at, next_of}
@@ -34,12 +34,12 @@ visible_call : (setting : Setting) (state : State) (number : ℕ) (thread : Thre
     (to : Option ℕ) (which : Extern) (arguments : List Operand) → is_blocked (shared_of state) number which decided ≡ false →
     let values = map (value_of frame) arguments in
     visible_effect setting state number thread frame decided (External to which arguments)
-    ≡ charged_for_items (returned state (made_by setting.code which values) number frame to) (call_of (shared_of state) number which values decided)
+    ≡ charged_for_items (after_call state (made_by setting.code which values) number frame to) (call_of (shared_of state) number which values decided)
 unfolding visible_effect
 visible_call setting state number thread frame decided to which arguments free =
     let values = map (value_of frame) arguments in
     ap (λ test. cond test Blocks
-    (charged_for_items (returned state (made_by setting.code which values) number frame to) (call_of (shared_of state) number which values decided))) free
+    (charged_for_items (after_call state (made_by setting.code which values) number frame to) (call_of (shared_of state) number which values decided))) free
 
 -- all but calls and returns change only their thread and the objects
 visible_other : (setting : Setting) (state : State) (number : ℕ) (thread : Thread) (frame : Frame) (decided : List ℕ) (inst : Inst) →
@@ -53,32 +53,45 @@ visible_other setting state number thread frame decided (External to which argum
 visible_other setting state number thread frame decided (Ret value) call return = absurd (return value refl)
 visible_other setting state number thread frame decided inst call return = (refl, refl)
 
--- where nothing is left all is cut
-charged_none : {S : Type 0} (before : S) (left : ℕ) (decided : List ℕ) (site : Site) (effect : Effect S) → left ≤ 0 →
-    charged before left decided site effect ≡ stops before left decided Spent
+-- where an instruction costs more than is left it is cut
+charged-short : {S : Type 0} (before : S) (left : ℕ) (decided : List ℕ) (site : Site) (effect : Effect S) →
+    ((price : ℕ) → cost_of_effect effect ≡ Some price → left < price) →
+    charged before left decided site effect ≡ stopped before left decided Spent
 unfolding charged
-charged_none before left decided site (Done more after) none =
-    let short : leb left more ≡ true = le-leb left more (omega arith) in rw short refl
-charged_none before left decided site (Pauses more after) none =
-    let short : leb left more ≡ true = le-leb left more (omega arith) in rw short refl
-charged_none before left decided site (Exits more status after) none =
-    let short : leb left more ≡ true = le-leb left more (omega arith) in rw short refl
-charged_none before left decided site (Traps trap) none =
-    let spent : left ≡ 0 = omega arith in rw spent refl
-charged_none before left decided site Blocks none = refl
-charged_none before left decided site NoRow none = refl
+charged-short {S} before left decided site effect dear = go (cost_of_effect effect) dear
+  where
+    go : (cost : Option ℕ) → ((price : ℕ) → cost ≡ Some price → left < price) →
+        afforded before left decided (λ rest. led_by before rest decided site effect) cost ≡ stopped before left decided Spent
+    go None dear = refl
+    go (Some price) dear = rw (lt-ltb left price (dear price refl)) refl
+
+effect-costs : {S : Type 0} (effect : Effect S) (price : ℕ) → cost_of_effect effect ≡ Some price → 0 < price
+effect-costs (Done more after) price is = let one : more + 1 ≡ price = cc in omega arith
+effect-costs (Pauses more after) price is = let one : more + 1 ≡ price = cc in omega arith
+effect-costs (Exits more status after) price is = let one : more + 1 ≡ price = cc in omega arith
+effect-costs (Traps trap) price is = let one : 1 ≡ price = cc in omega arith
+effect-costs Blocks price is = absurd (let h : ⊥ = cc in h)
+effect-costs NoRow price is = absurd (let h : ⊥ = cc in h)
+
+-- an instruction costs more than it prints items
+visible-costs : (setting : Setting) (state : State) (number : ℕ) (thread : Thread) (frame : Frame) (decided : List ℕ)
+    (inst : Inst) (price : ℕ) → cost_of_effect (visible_effect setting state number thread frame decided inst) ≡ Some price →
+    items_of inst < price
+unfolding visible_effect is_blocked call_of
+visible-costs setting state number thread frame decided (External to Putchar arguments) price is =
+    let two : 2 ≡ price = cc in omega arith
+visible-costs setting state number thread frame decided (External to which arguments) price is =
+    effect-costs (visible_effect setting state number thread frame decided (External to which arguments)) price is
+visible-costs setting state number thread frame decided inst price is =
+    effect-costs (visible_effect setting state number thread frame decided inst) price is
 
 -- where no more is left than an instruction prints it is cut
-pub charged_short : (setting : Setting) (state : State) (number left : ℕ) (thread : Thread) (frame : Frame) (outcomes decided : List ℕ)
+pub visible-short : (setting : Setting) (state : State) (number left : ℕ) (thread : Thread) (frame : Frame) (more decided : List ℕ)
     (site : Site) (inst : Inst) → left ≤ items_of inst →
-    charged state left outcomes site (visible_effect setting state number thread frame decided inst) ≡ stops state left outcomes Spent
-unfolding charged visible_effect is_blocked call_of
-charged_short setting state number left thread frame outcomes decided site (External to Putchar arguments) short =
-    rw (le-leb left 1 short) refl
-charged_short setting state number left thread frame outcomes decided site (External to which arguments) short =
-    charged_none state left outcomes site (visible_effect setting state number thread frame decided (External to which arguments)) short
-charged_short setting state number left thread frame outcomes decided site inst short =
-    charged_none state left outcomes site (visible_effect setting state number thread frame decided inst) short
+    charged state left more site (visible_effect setting state number thread frame decided inst) ≡ stopped state left more Spent
+visible-short setting state number left thread frame more decided site inst short =
+    charged-short state left more site (visible_effect setting state number thread frame decided inst)
+    (λ price is. let dear = visible-costs setting state number thread frame decided inst price is in omega arith)
 
 -- what a call that is not blocked did
 pub acts_call : (action : Action) (setting : Setting) (before after : State) (number : ℕ) (thread : Thread) (frame : Frame)
@@ -86,7 +99,7 @@ pub acts_call : (action : Action) (setting : Setting) (before after : State) (nu
     inst ≡ External to which arguments → is_blocked (shared_of before) number which decided ≡ false →
     let values = map (value_of frame) arguments in
     Acts action (items_of_call which) before after
-    (charged_for_items (returned before (made_by setting.code which values) number frame to) (call_of (shared_of before) number which values decided)) →
+    (charged_for_items (after_call before (made_by setting.code which values) number frame to) (call_of (shared_of before) number which values decided)) →
     Acts action (items_of inst) before after (visible_effect setting before number thread frame decided inst)
 acts_call action setting before after number thread frame decided inst to which arguments is free acts =
     let AtEffect : Effect State → Type 0 = λ effect. Acts action (items_of_call which) before after effect in
@@ -117,18 +130,18 @@ is_top_kept (Some thread) (Some after) frame same is =
 
 moves_at : (setting : Setting) (before : State) (number left : ℕ) (thread : Thread) (addresses more numbers : List ℕ)
     (placed : Placed) (move : Move State) (found : Option Frame) → next_at setting.code found ≡ Some placed →
-    ((frame : Frame) → found ≡ Some frame → more ≡ outcomes_of setting.code before.objects frame placed.inst) →
+    ((frame : Frame) → found ≡ Some frame → more ≡ numbers_of setting.code before.objects frame addresses placed.inst) →
     numbers ≡ addresses ++ more →
     ((frame : Frame) → found ≡ Some frame →
     charged before left more placed.site (visible_effect setting before number thread frame numbers placed.inst) ≡ move) →
     paid before left [] (first_step_in setting before number thread addresses found) ≡ move
 unfolding paid
-moves_at setting before number left thread addresses more numbers placed move None next outcomes all moves =
+moves_at setting before number left thread addresses more numbers placed move None next later all moves =
     absurd (let h : ⊥ = cc in h)
-moves_at setting before number left thread addresses more numbers placed move (Some frame) next outcomes all moves =
+moves_at setting before number left thread addresses more numbers placed move (Some frame) next later all moves =
     ap (λ found. paid before left [] (first_step_at setting before number thread addresses frame found)) next
     ∙ ap (λ others. charged before left others placed.site
-    (visible_effect setting before number thread frame (addresses ++ others) placed.inst)) (sym (outcomes frame refl))
+    (visible_effect setting before number thread frame (addresses ++ others) placed.inst)) (sym (later frame refl))
     ∙ ap (λ others. charged before left more placed.site
     (visible_effect setting before number thread frame others placed.inst)) (sym all)
     ∙ moves frame refl
@@ -136,10 +149,10 @@ moves_at setting before number left thread addresses more numbers placed move (S
 -- what the pending instruction did
 pub moves_pending : (setting : Setting) (before : State) (number left : ℕ) (thread : Thread) (addresses more numbers : List ℕ)
     (placed : Placed) (move : Move State) → next_of setting.code thread ≡ Some placed →
-    ((frame : Frame) → top thread ≡ Some frame → more ≡ outcomes_of setting.code before.objects frame placed.inst) →
+    ((frame : Frame) → top thread ≡ Some frame → more ≡ numbers_of setting.code before.objects frame addresses placed.inst) →
     numbers ≡ addresses ++ more →
     ((frame : Frame) → top thread ≡ Some frame →
     charged before left more placed.site (visible_effect setting before number thread frame numbers placed.inst) ≡ move) →
     paid before left [] (first_step_in setting before number thread addresses (top thread)) ≡ move
-moves_pending setting before number left thread addresses more numbers placed move next outcomes all moves =
-    moves_at setting before number left thread addresses more numbers placed move (top thread) next outcomes all moves
+moves_pending setting before number left thread addresses more numbers placed move next later all moves =
+    moves_at setting before number left thread addresses more numbers placed move (top thread) next later all moves

@@ -15,7 +15,7 @@ use Rattle.machine_model.specs.declared.state.State.{State}
 use Rattle.machine_model.specs.declared.state.Thread.{Thread}
 use Rattle.machine_model.specs.Call.{is_blocked}
 use Rattle.machine_model.specs.Code.{Placed, next_in}
-use Rattle.machine_model.specs.Enabled.{is_enabled, waits, waits_at, waits_for, waits_in}
+use Rattle.machine_model.specs.Enabled.{is_enabled, has_to_wait, waits_at, waits_for, waits_in}
 use Rattle.machine_model.specs.Enabled.{may_run as may_run_in}
 use Rattle.machine_model.specs.Setting.{Setting}
 use Rattle.machine_model.specs.Shared.{shared_of}
@@ -46,19 +46,19 @@ waits_in-awaits : (setting : Setting) (state : State) (number : ℕ) (decided : 
 waits_in-awaits setting state number decided None = refl
 waits_in-awaits setting state number decided (Some frame) = waits_at-awaits state number decided (next_in setting.code frame)
 
-waits-awaits : (setting : Setting) (state : State) (number : ℕ) (thread : Thread) (operation : Operation) →
-    waits setting (shared_of state) number thread operation ≡ awaits state.threads (joined setting.code thread operation)
-unfolding waits joined
-waits-awaits setting state number thread Start = refl
-waits-awaits setting state number thread (At site decided) = waits_in-awaits setting state number decided (top thread)
-waits-awaits setting state number thread (CondReturn site decided) = refl
-waits-awaits setting state number thread Nothing = refl
+has_to_wait-awaits : (setting : Setting) (state : State) (number : ℕ) (thread : Thread) (operation : Operation) →
+    has_to_wait setting (shared_of state) number thread operation ≡ awaits state.threads (joined setting.code thread operation)
+unfolding has_to_wait joined
+has_to_wait-awaits setting state number thread Start = refl
+has_to_wait-awaits setting state number thread (At site decided) = waits_in-awaits setting state number decided (top thread)
+has_to_wait-awaits setting state number thread (CondReturn site decided) = refl
+has_to_wait-awaits setting state number thread Nothing = refl
 
 may_run-listed : (setting : Setting) (state : State) (number : ℕ) (thread : Option Thread) →
     may_run state.threads thread (option_map (waiting_of setting.code) thread) ≡ may_run_in setting (shared_of state) number thread
 may_run-listed setting state number None = refl
 may_run-listed setting state number (Some thread) =
-    ap (λ waits. not (has_ended thread) && not waits) (sym (waits-awaits setting state number thread thread.pending))
+    ap (λ has_to_wait. not (has_ended thread) && not has_to_wait) (sym (has_to_wait-awaits setting state number thread thread.pending))
 
 -- what the threads wait to do tells which may run
 pub enabled-listed : (setting : Setting) (state : State) (waiting : List Waiting) (number : ℕ) →

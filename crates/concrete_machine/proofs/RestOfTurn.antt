@@ -8,19 +8,19 @@ use Rattle.machine_model.specs.declared.state.State.{State}
 use Rattle.machine_model.specs.declared.state.Thread.{Thread}
 use Rattle.machine_model.specs.Setting.{Setting}
 use Rattle.machine_model.specs.Thread.{has_ended}
-use Rattle.machine_model.specs.Turn.{put_in, ran_on, rest_of_turn, went_on}
-use Rattle.concrete_machine.specs.Effect.{footprint}
-use Rattle.concrete_machine.specs.Turns.{turned}
+use Rattle.machine_model.specs.Turn.{in_state, steps_from, rest_of_turn, rest_of}
+use Rattle.concrete_machine.specs.Effect.{footprint_with}
+use Rattle.concrete_machine.specs.Turns.{turn_leaving}
 
 -- the thread's instructions change it and the objects in place
 pub rest_of_turn_goes : (setting : Setting) (number : ℕ) (state : State) (left rest : ℕ) (decided more : List ℕ)
     (thread after : Thread) (objects : List Object) (end : TurnEnd) →
     slice_get state.threads number ≡ Some thread → has_ended thread ≡ false →
-    ran_on setting number (footprint thread state.objects) left decided ≡ turned (footprint after objects) rest more end →
+    steps_from setting number (footprint_with thread state.objects) left decided ≡ turn_leaving (footprint_with after objects) rest more end →
     rest_of_turn setting number state left decided
-    ≡ turned (record state { threads = set state.threads number after; objects = objects }) rest more end
+    ≡ turn_leaving (record state { threads = set state.threads number after; objects = objects }) rest more end
 unfolding rest_of_turn
 rest_of_turn_goes setting number state left rest decided more thread after objects end there goes ran =
-    ap (went_on setting number state left decided) there
-    ∙ ap (λ test. cond test (turned state left decided ends.Going) (put_in state number (ran_on setting number (footprint thread state.objects) left decided))) goes
-    ∙ ap (put_in state number) ran
+    ap (rest_of setting number state left decided) there
+    ∙ ap (λ test. cond test (turn_leaving state left decided ends.Going) (in_state state number (steps_from setting number (footprint_with thread state.objects) left decided))) goes
+    ∙ ap (in_state state number) ran

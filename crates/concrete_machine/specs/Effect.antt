@@ -7,8 +7,8 @@ use Rattle.machine_model.specs.Effect.Effect.{Done, Traps, NoRow}
 use Rattle.concrete_machine.specs.declared.effect.Effect.{Effect as Answer}
 use Rattle.concrete_machine.specs.declared.effect.Effect.TheVariants as answers
 
-abbrev pub footprint : Thread → List Object → Footprint
-footprint thread objects = record { thread = thread; objects = objects }
+abbrev pub footprint_with : Thread → List Object → Footprint
+footprint_with thread objects = record { thread = thread; objects = objects }
 
 -- what an instruction answers that costs nothing beyond 1
 abbrev pub Effects : Answer → Footprint → Footprint → Effect Footprint → Type 0

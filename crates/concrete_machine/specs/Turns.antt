@@ -3,5 +3,5 @@ use Rattle.std.specs.Prelude.{ℕ, List}
 use Rattle.machine_model.specs.declared.run.TurnEnd.{TurnEnd}
 use Rattle.machine_model.specs.Turn.{Turned}
 
-abbrev pub turned : {S : Type 0} → S → ℕ → List ℕ → TurnEnd → Turned S
-turned after left decided end = record { after = after; left = left; decided = decided; end = end }
+abbrev pub turn_leaving : {S : Type 0} → S → ℕ → List ℕ → TurnEnd → Turned S
+turn_leaving after left decided end = record { after = after; left = left; decided = decided; end = end }

@@ -4,17 +4,17 @@ ghost use Rattle.std.specs.Prelude.{◌≡◌, ℕ, IfOk, IfSome, IsSome, List a
 ghost use Rattle.machine_model.specs.Instruction.{effect_of};
 ghost use Rattle.machine_model.specs.Step.{next_step};
 ghost use Rattle.machine_model.specs.Thread.{top};
-ghost use Rattle.machine_model.specs.Turn.{charged, paid, ran_on};
+ghost use Rattle.machine_model.specs.Turn.{charged, paid, steps_from};
 ghost use Rattle.concrete_machine.specs.Advance.{moved_to};
-ghost use Rattle.concrete_machine.specs.Effect.{footprint};
+ghost use Rattle.concrete_machine.specs.Effect.{footprint_with};
 ghost use Rattle.concrete_machine.specs.Frame.{HasNext};
-ghost use Rattle.concrete_machine.specs.Turns.{turned};
+ghost use Rattle.concrete_machine.specs.Turns.{turn_leaving};
 ghost use Rattle.machine_model.specs.Runnable.{IsRunnable};
 
 use crate::code::{Placed, next_in};
 use crate::effect::{Effect, apply};
 use crate::frame::top;
-use crate::operand::{decide_addresses, decide_outcomes};
+use crate::operand::{decide_addresses, decide_numbers};
 use crate::setting::Setting;
 use crate::visible::is_visible;
 use ir_types::{List, Site};
@@ -47,9 +47,9 @@ fn run_one(
     requires frame { IsSome (top thread.old) }
     requires next { IfSome (top thread.old) HasNext }
     ensures { (number : ℕ) (frame : Frame) (decided : Sequence ℕ) → top thread.old ≡ Some frame →
-        charged (footprint thread.old objects.old) left.old decided placed.now.site
-        (effect_of setting.now number (footprint thread.old objects.old) frame numbers.now placed.now.inst.now)
-        ≡ moved_to result (footprint thread.new objects.new) left.new decided }
+        charged (footprint_with thread.old objects.old) left.old decided placed.now.site
+        (effect_of setting.now number (footprint_with thread.old objects.old) frame numbers.now placed.now.inst.now)
+        ≡ moved_to result (footprint_with thread.new objects.new) left.new decided }
 {
     if *left == 0 {
         return Some(TurnEnd::Spent);
@@ -79,14 +79,14 @@ fn step(
 ) -> Result<Option<TurnEnd>, NoMemory>
     requires { IsRunnable setting.now.code }
     ensures { IfOk result (λ end. (number : ℕ) →
-        paid (footprint thread.old objects.old) left.old decided.old.items
-        (next_step setting.now number (footprint thread.old objects.old))
-        ≡ moved_to end (footprint thread.new objects.new) left.new decided.new.items) }
+        paid (footprint_with thread.old objects.old) left.old decided.old.items
+        (next_step setting.now number (footprint_with thread.old objects.old))
+        ≡ moved_to end (footprint_with thread.new objects.new) left.new decided.new.items) }
 {
     let Some(frame) = top(thread) else {
         return Ok(Some(TurnEnd::Spent));
     };
-    let Some(placed) = next_in(setting.module, frame) else {
+    let Some(placed) = next_in(setting.code, frame) else {
         return Ok(Some(TurnEnd::Spent));
     };
     let before = decided.len();
@@ -100,7 +100,7 @@ fn step(
         )?;
         return Ok(Some(TurnEnd::Going));
     }
-    decide_outcomes(setting.module, objects, frame, placed.inst, decided)?;
+    decide_numbers(setting.code, objects, frame, placed.inst, decided)?;
     Ok(run_one(setting, thread, objects, left, &decided[before..], &placed))
 }
 
@@ -113,8 +113,8 @@ pub fn run_on(
     decided: &mut Vec<u64>,
 ) -> Result<TurnEnd, NoMemory>
     requires { IsRunnable setting.now.code }
-    ensures { IfOk result (λ end. (number : ℕ) → ran_on setting.now number (footprint thread.old objects.old) left.old decided.old.items
-        ≡ turned (footprint thread.new objects.new) left.new decided.new.items end) }
+    ensures { IfOk result (λ end. (number : ℕ) → steps_from setting.now number (footprint_with thread.old objects.old) left.old decided.old.items
+        ≡ turn_leaving (footprint_with thread.new objects.new) left.new decided.new.items end) }
 {
     let most = u64::from(*left) + 1;
     for _ in 0..most {

@@ -84,7 +84,7 @@ fn create(
             item: None,
         });
     }
-    let thread = make_thread(alloc, setting.module, function, &[argument])?;
+    let thread = make_thread(alloc, setting.code, function, &[argument])?;
     if let Err(trap) = write(&mut state.objects.items, at, 8, count as u64) {
         return Ok(Called::Traps(trap));
     }

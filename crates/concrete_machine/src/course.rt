@@ -5,7 +5,7 @@ ghost use Rattle.machine_model.specs.Enabled.{enabled};
 ghost use Rattle.machine_model.specs.Moment.{access_at};
 ghost use Rattle.machine_model.specs.Policy.{choose};
 ghost use Rattle.machine_model.specs.Primary.{setting_of};
-ghost use Rattle.machine_model.specs.Run.{advanced, advanced_with, begun, told};
+ghost use Rattle.machine_model.specs.Run.{advanced, advanced_with, first_course, concluded};
 ghost use Rattle.machine_model.specs.Runnable.{IsRunnable};
 ghost use Rattle.machine_model.specs.Setting.{Setting};
 ghost use Rattle.machine_model.specs.System.{machine_of};
@@ -47,7 +47,7 @@ impl Course {
     ) -> Result<Course, NoMemory>
         requires { IsRunnable code.now }
         ensures course { IfOk result (λ course.
-            course_of course ≡ begun (machine_of (setting_of code.now case.now input.now)) case.now.steps) }
+            course_of course ≡ first_course (machine_of (setting_of code.now case.now input.now)) case.now.steps) }
         ensures of { IfOk result (IsOf code.now case.now) }
     {
         Ok(Course {
@@ -158,8 +158,8 @@ impl Course {
     }
 
     /// What a run leaves that ended like this.
-    pub fn tell(self, outcome: Outcome) -> Run
-        ensures { (setting : Setting) → result ≡ told (machine_of setting) (course_of self) outcome }
+    pub fn conclude(self, outcome: Outcome) -> Run
+        ensures { (setting : Setting) → result ≡ concluded (machine_of setting) (course_of self) outcome }
     {
         self.machine.into_run(self.turns.into(), outcome)
     }

@@ -5,17 +5,17 @@ ghost use Rattle.ir_types.specs.Kind.{size_of, width_of};
 ghost use Rattle.ir_types.specs.Width.{bits_of};
 ghost use Rattle.machine_model.specs.Decision.{value_of_binary};
 ghost use Rattle.machine_model.specs.Effect.{done_or_traps};
-ghost use Rattle.machine_model.specs.Instruction.{effect_of, set_or_trapped, sets, stores, trap_of};
+ghost use Rattle.machine_model.specs.Instruction.{done_unless, effect_of, number_or_0, sets, stores, trap_of_test};
 ghost use Rattle.machine_model.specs.Memory.{read, written};
 ghost use Rattle.machine_model.specs.Thread.{top, value_of};
-ghost use Rattle.concrete_machine.specs.Effect.{Effects, footprint};
+ghost use Rattle.concrete_machine.specs.Effect.{Effects, footprint_with};
 ghost use Rattle.concrete_machine.specs.Frame.{HasNext};
 
 use crate::frame::{pass, running, set};
 use crate::memory::{read, write};
 use crate::operand::{number_at, value_of, value_of_binary};
 use crate::setting::Setting;
-use ir_types::{BinOp, Inst, Kind, Module, OpTrap, Operand, Word};
+use ir_types::{BinOp, Inst, Kind, Module, Operand, Word};
 use machine_model::{Frame, Object, Thread, Trap};
 
 /// What an instruction did.
@@ -27,38 +27,46 @@ pub enum Effect {
     NoRow,
 }
 
-fn trap_of(trap: OpTrap) -> Trap
-    ensures { result ≡ trap_of trap }
+/// The trap that the outcome of an operation's test means.
+fn trap_of_test(op: BinOp, test: u64) -> Option<Trap>
+    ensures { result ≡ trap_of_test op test }
 {
-    match trap {
-        OpTrap::DivZero => Trap::DivZero,
-        OpTrap::DivOverflow => Trap::DivOverflow,
-        OpTrap::Overshift => Trap::Overshift,
+    match op {
+        BinOp::Add | BinOp::Sub | BinOp::Mul | BinOp::And | BinOp::Or | BinOp::Xor => None,
+        BinOp::Udiv | BinOp::Urem | BinOp::Sdiv | BinOp::Srem => match test {
+            0 => None,
+            1 => Some(Trap::DivZero),
+            _ => Some(Trap::DivOverflow),
+        },
+        BinOp::Shl | BinOp::Lshr | BinOp::Ashr => match test {
+            0 => None,
+            _ => Some(Trap::Overshift),
+        },
     }
 }
 
-fn compute(code: &Module, thread: &mut Thread, to: u32, op: BinOp, a: Operand, b: Operand) -> Effect
+fn compute(code: &Module, thread: &mut Thread, to: u32, op: BinOp, a: Operand, b: Operand, test: u64) -> Effect
     requires frame { IsSome (top thread.old) }
     requires next { IfSome (top thread.old) HasNext }
     ensures { (frame : Frame) (objects : List Object) → top thread.old ≡ Some frame →
-        Effects result (footprint thread.old objects) (footprint thread.new objects)
-        (set_or_trapped (footprint thread.old objects) frame to (value_of_binary code.now frame op a b)) }
+        Effects result (footprint_with thread.old objects) (footprint_with thread.new objects)
+        (done_unless (sets (footprint_with thread.old objects) frame to (number_or_0 (value_of_binary code.now frame op a b)))
+        (trap_of_test op test)) }
 {
-    match value_of_binary(code, running(thread), op, a, b) {
-        Ok(value) => {
-            set(thread, to, value);
-            Effect::Done
-        }
-        Err(trap) => Effect::Traps(trap_of(trap)),
+    if let Some(trap) = trap_of_test(op, test) {
+        return Effect::Traps(trap);
     }
+    let value = value_of_binary(code, running(thread), op, a, b).unwrap_or(0);
+    set(thread, to, value);
+    Effect::Done
 }
 
 fn load(thread: &mut Thread, objects: &[Object], to: u32, kind: Kind, at: u64) -> Effect
     requires frame { IsSome (top thread.old) }
     requires next { IfSome (top thread.old) HasNext }
     ensures { (frame : Frame) → top thread.old ≡ Some frame →
-        Effects result (footprint thread.old objects.now) (footprint thread.new objects.now)
-        (done_or_traps (λ value. sets (footprint thread.old objects.now) frame to (value % 2 ^ bits_of (width_of kind)))
+        Effects result (footprint_with thread.old objects.now) (footprint_with thread.new objects.now)
+        (done_or_traps (λ value. sets (footprint_with thread.old objects.now) frame to (value % 2 ^ bits_of (width_of kind)))
         (read objects.now at (size_of kind))) }
 {
     match read(objects, at, kind.size()) {
@@ -75,8 +83,8 @@ fn store(thread: &mut Thread, objects: &mut [Object], kind: Kind, value: Operand
     requires frame { IsSome (top thread.old) }
     requires next { IfSome (top thread.old) HasNext }
     ensures { (frame : Frame) → top thread.old ≡ Some frame →
-        Effects result (footprint thread.old objects.old) (footprint thread.new objects.new)
-        (done_or_traps (stores (footprint thread.old objects.old) frame)
+        Effects result (footprint_with thread.old objects.old) (footprint_with thread.new objects.new)
+        (done_or_traps (stores (footprint_with thread.old objects.old) frame)
         (written objects.old at (size_of kind) (value_of frame value % 2 ^ bits_of (width_of kind)))) }
 {
     let word = Word::truncated(kind.width(), value_of(running(thread), value));
@@ -101,11 +109,11 @@ pub fn apply(
     requires frame { IsSome (top thread.old) }
     requires next { IfSome (top thread.old) HasNext }
     ensures { (number : ℕ) (frame : Frame) → top thread.old ≡ Some frame →
-        Effects result (footprint thread.old objects.old) (footprint thread.new objects.new)
-        (effect_of setting.now number (footprint thread.old objects.old) frame decided.now inst.now) }
+        Effects result (footprint_with thread.old objects.old) (footprint_with thread.new objects.new)
+        (effect_of setting.now number (footprint_with thread.old objects.old) frame decided.now inst.now) }
 {
     match inst {
-        Inst::Binary { to, op, a, b } => compute(setting.module, thread, *to, *op, *a, *b),
+        Inst::Binary { to, op, a, b } => compute(setting.code, thread, *to, *op, *a, *b, number_at(decided, 0)),
         Inst::Load { to, kind, .. } => load(thread, objects, *to, *kind, number_at(decided, 0)),
         Inst::Store { kind, value, .. } => {
             store(thread, objects, *kind, *value, number_at(decided, 0))

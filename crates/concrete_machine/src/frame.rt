@@ -1,7 +1,7 @@
 //! The frame of a thread that runs.
 
 ghost use Rattle.std.specs.Prelude.{◌≡◌, IfSome, IsSome, Some, option_map};
-ghost use Rattle.machine_model.specs.Thread.{onward, onward_with, top, with_top};
+ghost use Rattle.machine_model.specs.Thread.{moved_on, moved_on_with, top, with_top};
 ghost use Rattle.concrete_machine.specs.Frame.{HasNext};
 
 use machine_model::{Frame, Thread};
@@ -25,7 +25,7 @@ pub fn running(thread: &Thread) -> &Frame
 /// Goes on to the next instruction.
 fn go_on(frame: &mut Frame)
     requires { HasNext frame.old }
-    ensures { frame.new ≡ onward frame.old }
+    ensures { frame.new ≡ moved_on frame.old }
 {
     frame.place += 1;
 }
@@ -33,7 +33,7 @@ fn go_on(frame: &mut Frame)
 /// Sets a register and goes on to the next instruction.
 fn set_and_go_on(frame: &mut Frame, register: u32, number: u64)
     requires { HasNext frame.old }
-    ensures { frame.new ≡ onward_with frame.old register number }
+    ensures { frame.new ≡ moved_on_with frame.old register number }
 {
     let register = register as usize;
     if register < frame.registers.items.len() {
@@ -46,7 +46,7 @@ fn set_and_go_on(frame: &mut Frame, register: u32, number: u64)
 pub fn pass(thread: &mut Thread)
     requires frame { IsSome (top thread.old) }
     requires next { IfSome (top thread.old) HasNext }
-    ensures { (frame : Frame) → top thread.old ≡ Some frame → thread.new ≡ with_top thread.old (onward frame) }
+    ensures { (frame : Frame) → top thread.old ≡ Some frame → thread.new ≡ with_top thread.old (moved_on frame) }
 {
     let last = thread.frames.items.len() - 1;
     go_on(&mut thread.frames.items[last]);
@@ -57,7 +57,7 @@ pub fn set(thread: &mut Thread, register: u32, number: u64)
     requires frame { IsSome (top thread.old) }
     requires next { IfSome (top thread.old) HasNext }
     ensures { (frame : Frame) → top thread.old ≡ Some frame →
-        thread.new ≡ with_top thread.old (onward_with frame register number) }
+        thread.new ≡ with_top thread.old (moved_on_with frame register number) }
 {
     let last = thread.frames.items.len() - 1;
     set_and_go_on(&mut thread.frames.items[last], register, number);

@@ -2,7 +2,7 @@
 
 ghost use Rattle.std.specs.Prelude.{◌≡◌, ◌+◌, ◌++◌, ◌<◌, ◌≤◌, [], All, IfOk, OnOk, slice_get};
 ghost use Rattle.ir_types.specs.declared.«module».Module.{Module};
-ghost use Rattle.machine_model.specs.Access.{pending};
+ghost use Rattle.machine_model.specs.Access.{pending_of_state};
 ghost use Rattle.machine_model.specs.Enabled.{enabled, is_enabled};
 ghost use Rattle.machine_model.specs.Runnable.{IsRunnable};
 ghost use Rattle.machine_model.specs.Setting.{Setting};
@@ -73,41 +73,41 @@ impl Machine {
     }
 
     /// Whether a thread may take a turn: it was made, has not ended, and doesn't have to wait.
-    pub fn enabled(&self, t: u32) -> bool
-        ensures { (setting : Setting) → Runs setting.code self.now → result ≡ is_enabled setting self.now.state t }
+    pub fn enabled(&self, thread: u32) -> bool
+        ensures { (setting : Setting) → Runs setting.code self.now → result ≡ is_enabled setting self.now.state thread }
     {
-        may_run(&self.state.threads.items, &self.waiting, t as usize)
+        may_run(&self.state.threads.items, &self.waiting, thread as usize)
     }
 
     /// Lists the threads that may take a turn, rising, in place of what the list held.
     pub fn list_enabled(&self, list: &mut Vec<u32>) -> Result<(), NoMemory>
         ensures value { OnOk result ((setting : Setting) → Runs setting.code self.now →
             list.new.items ≡ enabled setting self.now.state) }
-        ensures few { OnOk result ((code : Module) → Runs code self.now → All (λ t. t < 16) list.new.items) }
+        ensures few { OnOk result ((code : Module) → Runs code self.now → All (λ thread. thread < 16) list.new.items) }
     {
         let most = self.state.threads.len().min(MOST_THREADS);
         list.clear();
-        for t in 0..most as u32 {
-            if self.enabled(t) {
-                list.push(t)?;
+        for thread in 0..most as u32 {
+            if self.enabled(thread) {
+                list.push(thread)?;
             }
         }
         Ok(())
     }
 
     /// Whether a thread was made and has ended.
-    pub fn has_ended(&self, t: u32) -> bool
-        ensures { result ≡ thread_has_ended (slice_get self.now.state.threads t) }
+    pub fn has_ended(&self, thread: u32) -> bool
+        ensures { result ≡ thread_has_ended (slice_get self.now.state.threads thread) }
     {
-        let thread = self.state.threads.as_slice().get(t as usize);
-        thread.is_some_and(|thread| thread.ended.is_some())
+        let found = self.state.threads.as_slice().get(thread as usize);
+        found.is_some_and(|found| found.ended.is_some())
     }
 
     /// What a thread waits to do.
-    pub fn pending(&self, t: u32) -> Pending
-        ensures { (code : Module) → Runs code self.now → result ≡ pending code self.now.state t }
+    pub fn pending(&self, thread: u32) -> Pending
+        ensures { (code : Module) → Runs code self.now → result ≡ pending_of_state code self.now.state thread }
     {
-        match self.waiting.get(t as usize) {
+        match self.waiting.get(thread as usize) {
             Some(waiting) => waiting.pending,
             None => Pending::Unborn,
         }
@@ -134,18 +134,18 @@ impl Machine {
         code: &Module,
         input: &Input,
         watch: &[Site],
-        t: u32,
+        thread: u32,
         left: &mut u32,
         steps: &mut Steps<L>,
     ) -> Result<(Machine, TurnEnd), NoMemory>
         requires { Runs code.now self }
         ensures runs { IfOk result (λ done. Runs code.now done.0) }
         ensures state { IfOk result (λ done.
-            done.0.state ≡ (machine_turn code.now input.now watch.now self t left.old).after) }
+            done.0.state ≡ (machine_turn code.now input.now watch.now self thread left.old).after) }
         ensures decided { IfOk result (λ done.
-            done.0.decided ≡ self.decided ++ (machine_turn code.now input.now watch.now self t left.old).decided) }
-        ensures end { IfOk result (λ done. done.1 ≡ (machine_turn code.now input.now watch.now self t left.old).end) }
-        ensures left { IfOk result (λ done. left.new ≡ (machine_turn code.now input.now watch.now self t left.old).left) }
+            done.0.decided ≡ self.decided ++ (machine_turn code.now input.now watch.now self thread left.old).decided) }
+        ensures end { IfOk result (λ done. done.1 ≡ (machine_turn code.now input.now watch.now self thread left.old).end) }
+        ensures left { IfOk result (λ done. left.new ≡ (machine_turn code.now input.now watch.now self thread left.old).left) }
         ensures falls { IfOk result (λ done. left.new ≤ left.old) }
         ensures cost { IfOk result (λ done. left.new + steps.new ≡ left.old + steps.old) }
     {
@@ -157,13 +157,13 @@ impl Machine {
         } = self;
         let alloc = *decided.allocator();
         let setting = Setting {
-            module: code,
+            code,
             input,
             watch,
         };
         let before = *left;
         decided.clear();
-        let end = turn(alloc, &setting, &mut state, t as usize, left, &mut decided)?;
+        let end = turn(alloc, &setting, &mut state, thread as usize, left, &mut decided)?;
         count(before - *left, steps);
         decisions.extend_from_slice(&decided)?;
         list_waiting(code, &state.threads.items, &mut waiting)?;

@@ -1,7 +1,7 @@
 //! The numbers of operands, and the numbers that an instruction decides.
 
-ghost use Rattle.std.specs.Prelude.{◌≡◌, ◌++◌, OnOk, map, slice_index};
-ghost use Rattle.machine_model.specs.Decision.{is_tested, outcomes_of, addresses_of, addresses_of_call, test_of, value_of_binary};
+ghost use Rattle.std.specs.Prelude.{◌≡◌, ◌≤◌, ◌++◌, List as Sequence, OnOk, length, map, slice_index, ℕ};
+ghost use Rattle.machine_model.specs.Decision.{addresses_of, addresses_of_call, is_tested, numbers_of, test_of, value_of_binary};
 ghost use Rattle.machine_model.specs.Thread.{value_of, width_of_operand};
 
 use ir_types::{BinOp, Extern, Inst, Kind, Module, OpTrap, Operand, Width, Word, binary};
@@ -138,16 +138,18 @@ fn test_of(value: Result<u64, OpTrap>) -> u64
     }
 }
 
-/// Adds the other numbers that the instruction decides: the outcomes of its trap tests.
-#[tactic(auto, unfolding(machine_model::specs::Decision::outcomes_of))]
-pub fn decide_outcomes(
+/// Adds the numbers that the instruction decides after its addresses: the outcome of its trap test.
+#[tactic(auto, unfolding(machine_model::specs::Decision::next_number, machine_model::specs::Decision::numbers_within))]
+pub fn decide_numbers(
     code: &Module,
     objects: &[Object],
     frame: &Frame,
     inst: &Inst,
     decided: &mut Vec<u64>,
 ) -> Result<(), NoMemory>
-    ensures { OnOk result (decided.new.items ≡ decided.old.items ++ outcomes_of code.now objects.now frame.now inst.now) }
+    ensures value { OnOk result ((addresses : Sequence ℕ) →
+        decided.new.items ≡ decided.old.items ++ numbers_of code.now objects.now frame.now addresses inst.now) }
+    ensures grows { OnOk result (length decided.old.items ≤ length decided.new.items) }
 {
     match inst {
         Inst::Binary { op, a, b, .. } if is_tested(*op) => {

@@ -2,12 +2,12 @@
 
 ghost use Rattle.std.specs.Prelude.{◌≡◌, ◌<◌, ◌≤◌, ◌++◌, [], ℕ, List, IfOk, OnOk, Some, length, map, slice_get};
 ghost use Rattle.machine_model.specs.Call.{Returned};
-ghost use Rattle.machine_model.specs.Decision.{outcomes_of};
+ghost use Rattle.machine_model.specs.Decision.{numbers_of};
 ghost use Rattle.machine_model.specs.Effect.{Effect as Effects, mapped};
 ghost use Rattle.machine_model.specs.Instruction.{effect_of};
-ghost use Rattle.machine_model.specs.Operation.{charged_for_items, footprint_of, put_back, result_of_return, returned, visible_effect, with_frame};
+ghost use Rattle.machine_model.specs.Operation.{charged_for_items, footprint_of, put_back, result_of_return, after_call, visible_effect, with_frame};
 ghost use Rattle.machine_model.specs.Step.{first_step, first_step_in};
-ghost use Rattle.machine_model.specs.Thread.{onward_after, top, value_of, with_top};
+ghost use Rattle.machine_model.specs.Thread.{moved_on_after, top, value_of, with_top};
 ghost use Rattle.machine_model.specs.Turn.{charged, paid};
 ghost use Rattle.concrete_machine.specs.Advance.{moved_to};
 ghost use Rattle.concrete_machine.specs.Call.{Calls, Prints};
@@ -19,7 +19,7 @@ use crate::call::{Called, call, is_blocked};
 use crate::code::{Placed, next_of};
 use crate::effect::{Effect, apply};
 use crate::frame::{pass, set, top};
-use crate::operand::{decide_outcomes, value_of};
+use crate::operand::{decide_numbers, value_of};
 use crate::setting::Setting;
 use crate::thread_end::end_thread;
 use ir_types::{Extern, Inst, Operand, Site};
@@ -55,7 +55,7 @@ fn items_of(inst: &Inst) -> u32
 fn go_on(thread: &mut Thread, to: Option<u32>, value: Option<u64>)
     requires { HasRoom (top thread.old) }
     ensures { (frame : Frame) → top thread.old ≡ Some frame →
-        thread.new ≡ with_top thread.old (onward_after frame to value) }
+        thread.new ≡ with_top thread.old (moved_on_after frame to value) }
 {
     match (to, value) {
         (Some(register), Some(number)) => set(thread, register, number),
@@ -67,7 +67,7 @@ fn go_on(thread: &mut Thread, to: Option<u32>, value: Option<u64>)
 fn resume(state: &mut State, number: usize, to: Option<u32>, value: Option<u64>)
     requires { CanGoOn (slice_get state.old.threads number) }
     ensures value { (frame : Frame) → IsTop state.old number frame →
-        state.new ≡ with_frame state.old number (onward_after frame to value) (slice_get state.old.threads number) }
+        state.new ≡ with_frame state.old number (moved_on_after frame to value) (slice_get state.old.threads number) }
     ensures count { length state.new.threads ≡ length state.old.threads }
 {
     let thread = &mut state.threads.items[number];
@@ -85,7 +85,7 @@ fn conclude(
     ensures value { IfOk result (λ action. (count : ℕ) (before : State) (others : List Thread) (frame : Frame) (effect : Effects Returned) →
         IsTop state.old number frame → Prints count called →
         state.old.output ≡ before.output → Calls called others before state.old effect →
-        Acts action count before state.new (charged_for_items (returned before others number frame to) effect)) }
+        Acts action count before state.new (charged_for_items (after_call before others number frame to) effect)) }
     ensures count { OnOk result (length state.new.threads ≡ length state.old.threads) }
 {
     match called {
@@ -229,11 +229,11 @@ fn run_visible(
 ) -> Result<Option<TurnEnd>, NoMemory>
     requires few { length state.old.threads ≤ 16 }
     requires thread { CanGoOn (slice_get state.old.threads number) }
-    ensures value { IfOk result (λ end. (thread : Thread) (frame : Frame) (outcomes : List ℕ) →
+    ensures value { IfOk result (λ end. (thread : Thread) (frame : Frame) (more : List ℕ) →
         slice_get state.old.threads number ≡ Some thread → top thread ≡ Some frame →
-        charged state.old left.old outcomes placed.now.site
+        charged state.old left.old more placed.now.site
         (visible_effect setting.now state.old number thread frame decided.now placed.now.inst.now)
-        ≡ moved_to end state.new left.new outcomes) }
+        ≡ moved_to end state.new left.new more) }
     ensures few { IfOk result (λ end. length state.new.threads ≤ 16) }
     ensures kept { IfOk result (λ end. length state.old.threads ≤ length state.new.threads) }
 {
@@ -256,12 +256,12 @@ fn decide(
     decided: &mut Vec<u64>,
 ) -> Result<Vec<u64>, NoMemory>
     requires { decided.old.items ≡ [] }
-    ensures outcomes { OnOk result ((frame : Frame) → top thread.now ≡ Some frame →
-        decided.new.items ≡ outcomes_of setting.now.code state.now.objects frame inst.now) }
+    ensures numbers { OnOk result ((frame : Frame) → top thread.now ≡ Some frame →
+        decided.new.items ≡ numbers_of setting.now.code state.now.objects frame addresses.now inst.now) }
     ensures all { IfOk result (λ numbers. numbers.items ≡ addresses.now ++ decided.new.items) }
 {
     if let Some(frame) = top(thread) {
-        decide_outcomes(setting.module, &state.objects.items, frame, inst, decided)?;
+        decide_numbers(setting.code, &state.objects.items, frame, inst, decided)?;
     }
     let mut numbers = Vec::from_slice(alloc, addresses)?;
     numbers.extend_from_slice(decided)?;
@@ -298,7 +298,7 @@ fn run_pending(
     else {
         return Ok(Some(TurnEnd::Spent));
     };
-    let Some(placed) = next_of(setting.module, thread) else {
+    let Some(placed) = next_of(setting.code, thread) else {
         return Ok(Some(TurnEnd::Spent));
     };
     let numbers = decide(

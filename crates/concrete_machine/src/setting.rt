@@ -6,7 +6,7 @@ use std::marker::Model;
 /// The module, the input and the watched sites of a run.
 #[derive(Drop)]
 pub struct Setting<'m> {
-    pub module: &'m Module,
+    pub code: &'m Module,
     pub input: &'m Input,
     pub watch: &'m [Site],
 }
@@ -16,5 +16,5 @@ impl<'m> Model for Setting<'m> {
 
     ghost Value = { Fixed };
 
-    ghost view = { λ setting. record { code = setting.module.now; input = setting.input.now; watch = setting.watch.now } };
+    ghost view = { λ setting. record { code = setting.code.now; input = setting.input.now; watch = setting.watch.now } };
 }

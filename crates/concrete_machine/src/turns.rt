@@ -3,7 +3,7 @@
 ghost use Rattle.std.specs.Prelude.{◌≡◌, ◌<◌, ◌≤◌, [], IfOk, length};
 ghost use Rattle.machine_model.specs.Runnable.{IsRunnable};
 ghost use Rattle.machine_model.specs.Turn.{rest_of_turn, turn};
-ghost use Rattle.concrete_machine.specs.Turns.{turned};
+ghost use Rattle.concrete_machine.specs.Turns.{turn_leaving};
 
 use crate::advance::run_on;
 use crate::operation::operate;
@@ -25,7 +25,7 @@ fn finish_turn(
     requires thread { number < length state.old.threads }
     ensures value { IfOk result (λ end.
         rest_of_turn setting.now number state.old left.old decided.old.items
-        ≡ turned state.new left.new decided.new.items end) }
+        ≡ turn_leaving state.new left.new decided.new.items end) }
     ensures count { length state.new.threads ≡ length state.old.threads }
 {
     if state.threads.items[number].ended.is_some() {
@@ -53,7 +53,7 @@ pub fn turn(
     requires few { length state.old.threads ≤ 16 }
     requires fresh { decided.old.items ≡ [] }
     ensures value { IfOk result (λ end.
-        turn setting.now state.old number left.old ≡ turned state.new left.new decided.new.items end) }
+        turn setting.now state.old number left.old ≡ turn_leaving state.new left.new decided.new.items end) }
     ensures few { IfOk result (λ end. length state.new.threads ≤ 16) }
 {
     if number >= state.threads.items.len() {

@@ -64,7 +64,7 @@ fn take_course<R: Abort, L: Ledger>(rt: &R, alloc: Global, blank: Blank) -> Resu
         match course.advance(&code, &case, &case.input, &mut steps)? {
             Advance::Onward(next) => course = next,
             Advance::Over(last, outcome) => {
-                let run = last.tell(outcome);
+                let run = last.conclude(outcome);
                 assert_eq!(rt; run.outcome, Outcome::Exit { status: 0 });
                 assert_eq!(rt; run.turns, case.turns);
                 return Ok(());

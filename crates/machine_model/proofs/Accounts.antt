@@ -1,8 +1,7 @@
 -- A turn pays for what it prints: each item costs 1, and so does the turn itself unless it is cut.
-use Rattle.std.proofs.Common.{◌≡◌, ◌≢◌, ℕ, zero, suc, ◌+◌, ◌<◌, ◌≤◌, leb, eqb, List, ◌∷◌, ◌++◌, [], length, Option, Some, None, refl, ap, arith, length-append, map, ◌%◌}
+use Rattle.std.proofs.Common.{◌≡◌, ℕ, zero, suc, ◌+◌, ◌-◌, ◌≤◌, eqb, List, ◌∷◌, ◌++◌, [], length, Option, Some, None, refl, ap, arith, length-append, map, ◌%◌}
 use Rattle.std.specs.Prelude.{slice_get, slice_set}
 use Rattle.std.specs.List.{list_all}
-use Rattle.std.proofs.lemmas.Bool.{leb-false, eqb-false}
 use Rattle.ir_types.specs.declared.external.ItemKind.TheVariants.{Status}
 use Rattle.ir_types.specs.declared.instruction.Inst.{Inst}
 use Rattle.ir_types.specs.declared.instruction.Inst.TheVariants.{External, Ret}
@@ -18,17 +17,17 @@ use Rattle.machine_model.specs.Effect.{Effect, Footprint, mapped}
 use Rattle.machine_model.specs.Effect.Effect.{Done, Pauses, Exits, Traps, Blocks, NoRow}
 use Rattle.machine_model.specs.Instruction.{effect_of}
 use Rattle.machine_model.specs.Memory.{without}
-use Rattle.machine_model.specs.Operation.{visible_effect, charged_for_items, ended, made_by, returned, ends_with, unless_last, with_status, put_back, footprint_of}
+use Rattle.machine_model.specs.Operation.{visible_effect, charged_for_items, ended, made_by, after_call, ends_with, unless_last, with_status, put_back, footprint_of}
 use Rattle.machine_model.specs.Setting.{Setting}
 use Rattle.machine_model.specs.Shared.{shared_of}
 use Rattle.machine_model.specs.Thread.{has_ended, value_of}
 use Rattle.machine_model.specs.Step.{Step, first_step, next_step}
-use Rattle.machine_model.specs.Step.Step.{Waits, Runs, Starts, Lacks}
+use Rattle.machine_model.specs.Step.Step.{Waits, Does, Starts, Lacks}
 use Rattle.machine_model.specs.SystemLaws.{price_of}
-use Rattle.machine_model.specs.Turn.{Turned, Move, charged, paid, rest_of_turn, went_on, ran, ran_on, then_on, turn, turn_of}
+use Rattle.machine_model.specs.Turn.{Turned, Move, cost_of_effect, led_by, paid, rest_of_turn, rest_of, steps_within, steps_from, continued, turn, turn_of}
 use Rattle.machine_model.specs.Turn.Move.{Leads, Stops}
 use Rattle.machine_model.proofs.Cases.{by_test}
-use Rattle.machine_model.proofs.Payment.{Pays, paid-pays}
+use Rattle.machine_model.proofs.Payment.{Pays, each-afforded, each-charged, paid-pays}
 use Rattle.machine_model.proofs.Steps.{each-first_step}
 
 -- what an effect prints costs it 1 for each item, but for the exit status
@@ -43,17 +42,17 @@ Charges before (Traps trap) = Unit {0}
 Charges before Blocks = Unit {0}
 Charges before NoRow = Unit {0}
 
-returned-charges : (state : State) (others : List Thread) (number : ℕ) (frame : Frame) (to : Option ℕ) (call : Effect Returned) →
-    Charges state (charged_for_items (returned state others number frame to) call)
-returned-charges state others number frame to (Done more call) =
+after_call-charges : (state : State) (others : List Thread) (number : ℕ) (frame : Frame) (to : Option ℕ) (call : Effect Returned) →
+    Charges state (charged_for_items (after_call state others number frame to) call)
+after_call-charges state others number frame to (Done more call) =
     let long = length-append state.output call.items in (omega arith, omega arith)
-returned-charges state others number frame to (Pauses more call) =
+after_call-charges state others number frame to (Pauses more call) =
     let long = length-append state.output call.items in (omega arith, omega arith)
-returned-charges state others number frame to (Exits more status call) =
+after_call-charges state others number frame to (Exits more status call) =
     let long = length-append state.output call.items in (omega arith, omega arith)
-returned-charges state others number frame to (Traps trap) = tt
-returned-charges state others number frame to Blocks = tt
-returned-charges state others number frame to NoRow = tt
+after_call-charges state others number frame to (Traps trap) = tt
+after_call-charges state others number frame to Blocks = tt
+after_call-charges state others number frame to NoRow = tt
 
 status-charges : (before state : State) (more status : ℕ) → state.output ≡ before.output →
     Charges before (Exits more status (with_status state status))
@@ -93,7 +92,7 @@ unfolding visible_effect
 visible_effect-charges setting state number thread frame decided (External to which arguments) =
     by_test (Charges state) (is_blocked (shared_of state) number which decided) _ _
     (λ h. tt)
-    (λ h. returned-charges state (made_by setting.code which (map (value_of frame) arguments)) number frame to
+    (λ h. after_call-charges state (made_by setting.code which (map (value_of frame) arguments)) number frame to
     (call_of (shared_of state) number which (map (value_of frame) arguments) decided))
 visible_effect-charges setting state number thread frame decided (Ret value) =
     ends_with-charges state number thread frame _
@@ -113,32 +112,25 @@ MoveBalances before left (Stops turned) =
 spent-balances : (state : State) (left : ℕ) → Balances state state left left 0
 spent-balances state left = record { grows = omega arith; pays = omega arith }
 
-charged-balances : (before : State) (left : ℕ) (decided : List ℕ) (site : Site) (effect : Effect State) →
-    Charges before effect → MoveBalances before left (charged before left decided site effect)
-unfolding charged
-charged-balances before left decided site (Done more after) charges =
-    by_test (MoveBalances before left) (leb left more) _ _
-    (λ h. record { grows = omega arith; pays = omega arith })
-    (λ h. let room : more < left = leb-false left more h in record { grows = charges.0; pays = omega arith })
-charged-balances before left decided site (Pauses more after) charges =
-    by_test (MoveBalances before left) (leb left more) _ _
-    (λ h. record { grows = omega arith; pays = omega arith })
-    (λ h. let room : more < left = leb-false left more h in record { grows = charges.0; pays = omega arith })
-charged-balances before left decided site (Exits more status after) charges =
-    by_test (MoveBalances before left) (leb left more) _ _
-    (λ h. record { grows = omega arith; pays = omega arith })
-    (λ h. let room : more < left = leb-false left more h in record { grows = charges.0; pays = omega arith })
-charged-balances before left decided site (Traps trap) charges =
-    by_test (MoveBalances before left) (eqb left 0) _ _
-    (λ h. record { grows = omega arith; pays = omega arith })
-    (λ h. let some : left ≢ 0 = eqb-false left 0 h in record { grows = omega arith; pays = omega arith })
-charged-balances before left decided site Blocks charges = spent-balances before left
-charged-balances before left decided site NoRow charges = spent-balances before left
+-- an effect that costs so much and was paid
+led-balances : (before : State) (left price : ℕ) (decided : List ℕ) (site : Site) (effect : Effect State) →
+    Charges before effect → cost_of_effect effect ≡ Some price → price ≤ left →
+    MoveBalances before left (led_by before (left - price) decided site effect)
+led-balances before left price decided site (Done more after) charges is room =
+    let one : more + 1 ≡ price = cc in record { grows = charges.0; pays = omega arith }
+led-balances before left price decided site (Pauses more after) charges is room =
+    let one : more + 1 ≡ price = cc in record { grows = charges.0; pays = omega arith }
+led-balances before left price decided site (Exits more status after) charges is room =
+    let one : more + 1 ≡ price = cc in record { grows = charges.0; pays = omega arith }
+led-balances before left price decided site (Traps trap) charges is room =
+    let one : 1 ≡ price = cc in record { grows = omega arith; pays = omega arith }
+led-balances before left price decided site Blocks charges is room = absurd (let h : ⊥ = cc in h)
+led-balances before left price decided site NoRow charges is room = absurd (let h : ⊥ = cc in h)
 
 -- of a step with which a turn begins, which does not wait
 abbrev StepCharges : State → Step State → Type 0
 StepCharges before (Waits after addresses) = ⊥
-StepCharges before (Runs numbers site effect) = Charges before effect
+StepCharges before (Does numbers site effect) = Charges before effect
 StepCharges before Starts = Unit {0}
 StepCharges before Lacks = Unit {0}
 
@@ -146,12 +138,12 @@ paid-balances : (before : State) (left : ℕ) (decided : List ℕ) (step : Step 
     MoveBalances before left (paid before left decided step)
 unfolding paid
 paid-balances before left decided (Waits after addresses) charges = absurd charges
-paid-balances before left decided (Runs numbers site effect) charges =
-    charged-balances before left (decided ++ numbers) site effect charges
+paid-balances before left decided (Does numbers site effect) charges =
+    each-charged (MoveBalances before left) before left (decided ++ numbers) site effect (spent-balances before left)
+    (λ price is some room. led-balances before left price (decided ++ numbers) site effect charges is room)
 paid-balances before left decided Starts charges =
-    by_test (MoveBalances before left) (eqb left 0) _ _
-    (λ h. spent-balances before left)
-    (λ h. let some : left ≢ 0 = eqb-false left 0 h in record { grows = omega arith; pays = omega arith })
+    each-afforded (MoveBalances before left) before left decided (λ rest. Leads before rest decided) (Some 1) (spent-balances before left)
+    (λ price is room. let one : 1 ≡ price = cc in record { grows = omega arith; pays = omega arith })
 paid-balances before left decided Lacks charges = spent-balances before left
 
 first_step-charges : (setting : Setting) (state : State) (number : ℕ) (thread : Thread) (operation : Operation) →
@@ -160,33 +152,33 @@ first_step-charges setting state number thread operation =
     each-first_step (StepCharges state) setting state number thread operation tt tt
     (λ numbers decided site frame inst. visible_effect-charges setting state number thread frame decided inst)
 
-then_on-keeps : (go : Footprint → ℕ → List ℕ → Turned Footprint) (left : ℕ) (move : Move Footprint) → Pays left move →
+continued-keeps : (go : Footprint → ℕ → List ℕ → Turned Footprint) (left : ℕ) (move : Move Footprint) → Pays left move →
     ((after : Footprint) (rest : ℕ) (decided : List ℕ) → (go after rest decided).left ≤ rest) →
-    (then_on go move).left ≤ left
-then_on-keeps go left (Leads after rest decided) pays keeps = let kept = keeps after rest decided in omega arith
-then_on-keeps go left (Stops turned) pays keeps = pays
+    (continued go move).left ≤ left
+continued-keeps go left (Leads after rest decided) pays keeps = let kept = keeps after rest decided in omega arith
+continued-keeps go left (Stops turned) pays keeps = pays
 
 -- instructions leave no more steps than there were
-ran-keeps : (setting : Setting) (number most : ℕ) (footprint : Footprint) (left : ℕ) (decided : List ℕ) →
-    (ran most setting number footprint left decided).left ≤ left
-unfolding ran
-ran-keeps setting number zero footprint left decided = omega arith
-ran-keeps setting number (suc most) footprint left decided =
-    then_on-keeps (ran most setting number) left (paid footprint left decided (next_step setting number footprint))
-    (paid-pays footprint left decided (next_step setting number footprint)) (ran-keeps setting number most)
+steps_within-keeps : (setting : Setting) (number most : ℕ) (footprint : Footprint) (left : ℕ) (decided : List ℕ) →
+    (steps_within most setting number footprint left decided).left ≤ left
+unfolding steps_within
+steps_within-keeps setting number zero footprint left decided = omega arith
+steps_within-keeps setting number (suc most) footprint left decided =
+    continued-keeps (steps_within most setting number) left (paid footprint left decided (next_step setting number footprint))
+    (paid-pays footprint left decided (next_step setting number footprint)) (steps_within-keeps setting number most)
 
 -- the turn goes on from here
-went_on-balances : (setting : Setting) (number : ℕ) (before state : State) (left rest : ℕ) (decided : List ℕ)
+rest_of-balances : (setting : Setting) (number : ℕ) (before state : State) (left rest : ℕ) (decided : List ℕ)
     (thread : Option Thread) → Balances before state left rest 1 →
-    let turned = went_on setting number state rest decided thread in
+    let turned = rest_of setting number state rest decided thread in
     Balances before turned.after left turned.left (price_of turned.end)
-went_on-balances setting number before state left rest decided None balances =
+rest_of-balances setting number before state left rest decided None balances =
     record { grows = balances.grows; pays = omega (arith, balances.pays) }
-went_on-balances setting number before state left rest decided (Some thread) balances =
+rest_of-balances setting number before state left rest decided (Some thread) balances =
     by_test (λ (turned : Turned State). Balances before turned.after left turned.left (price_of turned.end)) (has_ended thread) _ _
     (λ h. balances)
-    (λ h. let keeps = ran-keeps setting number (rest + 1) (footprint_of state thread) rest decided in
-    let bound = price-bound (ran_on setting number (footprint_of state thread) rest decided).end in
+    (λ h. let keeps = steps_within-keeps setting number (rest + 1) (footprint_of state thread) rest decided in
+    let bound = price-bound (steps_from setting number (footprint_of state thread) rest decided).end in
     record { grows = balances.grows; pays = omega (arith, balances.pays) })
   where
     price-bound : (end : TurnEnd) → price_of end ≤ 1
@@ -203,10 +195,10 @@ unfolding turn rest_of_turn
 turn-balances setting state number left = by_thread (slice_get state.threads number)
   where
     by_move : (move : Move State) → MoveBalances state left move →
-        let turned = then_on (rest_of_turn setting number) move in
+        let turned = continued (rest_of_turn setting number) move in
         Balances state turned.after left turned.left (price_of turned.end)
     by_move (Leads after rest decided) balances =
-        went_on-balances setting number state after left rest decided (slice_get after.threads number) balances
+        rest_of-balances setting number state after left rest decided (slice_get after.threads number) balances
     by_move (Stops turned) balances = balances
 
     by_thread : (thread : Option Thread) → let turned = turn_of setting state number left thread in

@@ -4,11 +4,11 @@ use Rattle.machine_model.specs.declared.run.Outcome.TheVariants as outcomes
 use Rattle.machine_model.specs.declared.run.Run.{Run}
 use Rattle.machine_model.specs.Begun.{begun_by, released_course}
 use Rattle.machine_model.specs.Begun.Begun.{Complete, Ready}
-use Rattle.machine_model.specs.Hold.Held.{Done, NotEnforced, Ran}
+use Rattle.machine_model.specs.Hold.Held.{Reordered, NotEnforced, RunOver}
 use Rattle.machine_model.specs.Job.{alternate_from}
-use Rattle.machine_model.specs.Job.Alternate.{Runs}
-use Rattle.machine_model.specs.Repeat.{Snapshot, earlier_turn, repeats, snapshot}
-use Rattle.machine_model.specs.Run.{Advance, Course, advanced, told}
+use Rattle.machine_model.specs.Job.Alternate.{Ran}
+use Rattle.machine_model.specs.Repeat.{Snapshot, earlier_turn, repeats, snapshot_of}
+use Rattle.machine_model.specs.Run.{Advance, Course, advanced, concluded}
 use Rattle.machine_model.specs.Run.Advance.{Onward, Over}
 use Rattle.machine_model.specs.System.{System}
 use Rattle.machine_model.specs.SystemLaws.{IsSystem}
@@ -22,9 +22,9 @@ tested_after-agrees : {S : Type 0} (system : System S) (go other : List (Snapsho
     tested_after system go past advance ≡ tested_after system other past advance
 tested_after-agrees system go other past course (Over last outcome) balances agree = refl
 tested_after-agrees system go other past course (Onward next) balances agree =
-    ap (cond (repeats system past (snapshot next))
-    (told system next (outcomes.Repeats (length past) (earlier_turn (length past)))))
-    (agree (past ++ snapshot next ∷ []) next balances.0)
+    ap (cond (repeats system past (snapshot_of next))
+    (concluded system next (outcomes.Repeats (length past) (earlier_turn (length past)))))
+    (agree (past ++ snapshot_of next ∷ []) next balances.0)
 
 -- any two bounds above what is left agree
 tested_from-agrees : {S : Type 0} (one two : ℕ) (system : System S) (facts : IsSystem system) (listed : List ℕ)
@@ -41,32 +41,32 @@ tested_from-agrees (suc one) (suc two) system facts listed past course h k =
 -- a tested turn and the rest are the tested run
 begun-goes_on : {S : Type 0} (system : System S) (facts : IsSystem system) (listed : List ℕ)
     (past : List (Snapshot S)) (course : Course S) (advance : Advance S) → AdvanceBalances system course advance →
-    alternate_from system listed (Some (begun_by system past advance))
-    ≡ Runs (tested_after system (tested_from course.left system listed) past advance)
+    alternate_from system listed 1 (Some (begun_by system past advance))
+    ≡ Ran (tested_after system (tested_from course.left system listed) past advance)
 begun-goes_on system facts listed past course (Over last outcome) balances = refl
-begun-goes_on {S} system facts listed past course (Onward next) balances = go (repeats system past (snapshot next))
+begun-goes_on {S} system facts listed past course (Onward next) balances = go (repeats system past (snapshot_of next))
   where
     over : Run
-    over = told system next (outcomes.Repeats (length past) (earlier_turn (length past)))
+    over = concluded system next (outcomes.Repeats (length past) (earlier_turn (length past)))
 
     all : List (Snapshot S)
-    all = past ++ snapshot next ∷ []
+    all = past ++ snapshot_of next ∷ []
 
     go : (repeat : Bool) →
-        alternate_from system listed (Some (cond repeat (Complete over) (Ready all next)))
-        ≡ Runs (cond repeat over (tested_from course.left system listed all next))
+        alternate_from system listed 1 (Some (cond repeat (Complete over) (Ready all next)))
+        ≡ Ran (cond repeat over (tested_from course.left system listed all next))
     go true = refl
     go false =
-        ap Runs (tested_from-agrees (next.left + 1) course.left system facts listed all next (omega arith) balances.0)
+        ap Ran (tested_from-agrees (next.left + 1) course.left system facts listed all next (omega arith) balances.0)
 
 pub alternate-is_whole : {S : Type 0} (system : System S) (facts : IsSystem system) → AlternateIsWhole system
 unfolding tested_from
 alternate-is_whole system facts listed race None = refl
 alternate-is_whole system facts listed race (Some (NotEnforced reason course)) = refl
-alternate-is_whole system facts listed race (Some (Ran run)) = refl
-alternate-is_whole system facts listed race (Some (Done past course)) =
+alternate-is_whole system facts listed race (Some (RunOver run)) = refl
+alternate-is_whole system facts listed race (Some (Reordered past course)) =
     let released = released_course race.t1 course in
     let more : suc course.left ≡ course.left + 1 = omega arith in
     begun-goes_on system facts listed past released (advanced system listed released)
     (advanced-balances system facts listed released)
-    ∙ ap (λ most. Runs (tested_from most system listed past released)) more
+    ∙ ap (λ most. Ran (tested_from most system listed past released)) more

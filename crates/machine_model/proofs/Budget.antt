@@ -4,7 +4,7 @@ use Rattle.machine_model.specs.declared.run.Run.{Run}
 use Rattle.machine_model.specs.declared.run.TurnEnd.{TurnEnd}
 use Rattle.machine_model.specs.declared.run.TurnEnd.TheVariants as ends
 use Rattle.machine_model.specs.Policy.{Choice}
-use Rattle.machine_model.specs.Run.{Advance, Course, advanced, advanced_by, advanced_with, after_turn, begun, onward_or_told, run_from, run_of}
+use Rattle.machine_model.specs.Run.{Advance, Course, advanced, advanced_by, advanced_with, after_turn, first_course, onward_or_concluded, run_from, run_of}
 use Rattle.machine_model.specs.Run.Advance.{Onward, Over}
 use Rattle.machine_model.specs.System.{System}
 use Rattle.machine_model.specs.SystemLaws.{IsSystem, Pays}
@@ -56,7 +56,7 @@ IsWithin budget run = length run.turns + length run.output ≤ budget
 
 onward-within : {S : Type 0} (system : System S) (go : Course S → Run) (course : Course S) (advance : Advance S) →
     AdvanceBalances system course advance →
-    ((next : Course S) → IsWithin (worth system next + 1) (go next)) → IsWithin (worth system course + 1) (onward_or_told system go advance)
+    ((next : Course S) → IsWithin (worth system next + 1) (go next)) → IsWithin (worth system course + 1) (onward_or_concluded system go advance)
 onward-within system go course (Onward next) balances within = let kept = within next in omega (arith, balances.1)
 onward-within system go course (Over last outcome) balances within = omega arith
 
@@ -73,13 +73,13 @@ pub run_of-within : {S : Type 0} (system : System S) (facts : IsSystem system) (
     IsWithin (steps + 1) (run_of system listed steps)
 unfolding run_of
 run_of-within system facts listed steps =
-    let within = run_from-within (steps + 1) system facts listed (begun system steps) in
+    let within = run_from-within (steps + 1) system facts listed (first_course system steps) in
     omega (arith, within, ap length facts.silent)
 
 onward-agrees : {S : Type 0} (system : System S) (go other : Course S → Run) (course : Course S)
     (advance : Advance S) → AdvanceBalances system course advance →
     ((next : Course S) → next.left < course.left → go next ≡ other next) →
-    onward_or_told system go advance ≡ onward_or_told system other advance
+    onward_or_concluded system go advance ≡ onward_or_concluded system other advance
 onward-agrees system go other course (Onward next) balances agree = agree next balances.0
 onward-agrees system go other course (Over last outcome) balances agree = refl
 
@@ -97,7 +97,7 @@ run_from-agrees (suc one) (suc two) system facts listed course h k =
 
 pub run_of-agrees : {S : Type 0} (system : System S) (facts : IsSystem system) (listed : List ℕ) (steps most : ℕ) →
     steps < most →
-    run_from most system listed (begun system steps) ≡ run_of system listed steps
+    run_from most system listed (first_course system steps) ≡ run_of system listed steps
 unfolding run_of
 run_of-agrees system facts listed steps most h =
-    run_from-agrees most (steps + 1) system facts listed (begun system steps) h (omega arith)
+    run_from-agrees most (steps + 1) system facts listed (first_course system steps) h (omega arith)

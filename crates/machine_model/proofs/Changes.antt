@@ -22,12 +22,12 @@ use Rattle.machine_model.specs.Code.{Placed, next_in}
 use Rattle.machine_model.specs.Decision.{addresses_of, value_of_binary}
 use Rattle.machine_model.specs.Effect.{Effect, Footprint, done_or_traps, mapped}
 use Rattle.machine_model.specs.Effect.Effect.{Done, Pauses, Exits, Traps, Blocks, NoRow}
-use Rattle.machine_model.specs.Instruction.{effect_of, set_or_trapped, sets, stores}
+use Rattle.machine_model.specs.Instruction.{address_in, done_unless, effect_of, number_or_0, sets, stores, test_in, trap_of_test}
 use Rattle.machine_model.specs.Memory.{read, without, written}
-use Rattle.machine_model.specs.Operation.{changed_by, charged_for_items, ended, ends_with, footprint_of, is_visible, made_by, put_back, returned, visible_effect, with_frame}
+use Rattle.machine_model.specs.Operation.{changed_by, charged_for_items, ended, ends_with, footprint_of, is_visible, made_by, put_back, after_call, visible_effect, with_frame}
 use Rattle.machine_model.specs.Setting.{Setting}
 use Rattle.machine_model.specs.Shared.{End, end_of, shared_of}
-use Rattle.machine_model.specs.Step.{Step, next_step, next_step_at, next_step_in, waiting}
+use Rattle.machine_model.specs.Step.{Step, next_step, next_step_at, next_step_in, made_pending}
 use Rattle.machine_model.specs.Thread.{has_ended, made, top, value_of}
 use Rattle.machine_model.specs.Turn.{turn}
 use Rattle.machine_model.proofs.CallStates.{state-joined, state-made, state-stays}
@@ -80,10 +80,10 @@ module _ (setting : Setting) (number : ℕ) (Holds : List Thread → List Object
 
     -- the rows, of which none pauses
     module _ (Paused : Footprint → Type 0) where
-      sets-keep : (footprint : Footprint) (frame : Frame) (to : ℕ) (value : Result ℕ OpTrap) → InFootprint footprint →
-          EffectKeeps InFootprint Paused (set_or_trapped footprint frame to value)
-      sets-keep footprint frame to (Ok value) holds = own-again footprint.thread _ footprint.objects holds
-      sets-keep footprint frame to (Err trap) holds = tt
+      sets-keep : (footprint : Footprint) (frame : Frame) (to value : ℕ) (trap : Option Trap) → InFootprint footprint →
+          EffectKeeps InFootprint Paused (done_unless (sets footprint frame to value) trap)
+      sets-keep footprint frame to value None holds = own-again footprint.thread _ footprint.objects holds
+      sets-keep footprint frame to value (Some trap) holds = tt
 
       loads-keep : (footprint : Footprint) (frame : Frame) (to : ℕ) (value_of : ℕ → ℕ) (value : Result ℕ Trap) → InFootprint footprint →
           EffectKeeps InFootprint Paused (done_or_traps (λ value. sets footprint frame to (value_of value)) value)
@@ -94,12 +94,12 @@ module _ (setting : Setting) (number : ℕ) (Holds : List Thread → List Object
           EffectKeeps InFootprint Paused (effect_of setting number footprint frame decided inst)
       unfolding effect_of
       effect-keeps footprint frame decided (Binary to op a b) holds =
-          sets-keep footprint frame to (value_of_binary setting.code frame op a b) holds
+          sets-keep footprint frame to (number_or_0 (value_of_binary setting.code frame op a b)) (trap_of_test op (test_in decided)) holds
       effect-keeps footprint frame decided (Load to kind at) holds =
           loads-keep footprint frame to (λ value. value % 2 ^ bits_of (width_of kind))
-          (read footprint.objects (slice_index decided 0) (size_of kind)) holds
+          (read footprint.objects (address_in decided) (size_of kind)) holds
       effect-keeps footprint frame decided (Store kind value at) holds =
-          stores-keep InFootprint Paused (slice_set threads number footprint.thread) footprint.objects (slice_index decided 0) (size_of kind)
+          stores-keep InFootprint Paused (slice_set threads number footprint.thread) footprint.objects (address_in decided) (size_of kind)
           (value_of frame value % 2 ^ bits_of (width_of kind)) (stores footprint frame)
           (λ list holds. own-again footprint.thread _ list holds) holds
       effect-keeps footprint frame decided _ holds = tt
@@ -169,17 +169,17 @@ module _ (setting : Setting) (number : ℕ) (Holds : List Thread → List Object
 
   -- visible instructions, after which this holds where they pause
   module _ (Between : State → Type 0) where
-    returned-keeps : (state : State) (others : List Thread) (frame : Frame) (to : Option ℕ) (call : Effect Returned) →
-        EffectKeeps (InReturned state others) (λ (call : Returned). Between (returned state others number frame to call)) call →
-        EffectKeeps Within Between (charged_for_items (returned state others number frame to) call)
-    returned-keeps state others frame to (Done more call) keeps =
+    after_call-keeps : (state : State) (others : List Thread) (frame : Frame) (to : Option ℕ) (call : Effect Returned) →
+        EffectKeeps (InReturned state others) (λ (call : Returned). Between (after_call state others number frame to call)) call →
+        EffectKeeps Within Between (charged_for_items (after_call state others number frame to) call)
+    after_call-keeps state others frame to (Done more call) keeps =
         let after = changed_by state others call.shared in with_frame-keeps after _ (slice_get after.threads number) keeps
-    returned-keeps state others frame to (Pauses more call) keeps = keeps
-    returned-keeps state others frame to (Exits more status call) keeps =
+    after_call-keeps state others frame to (Pauses more call) keeps = keeps
+    after_call-keeps state others frame to (Exits more status call) keeps =
         let after = changed_by state others call.shared in with_frame-keeps after _ (slice_get after.threads number) keeps
-    returned-keeps state others frame to (Traps trap) keeps = tt
-    returned-keeps state others frame to Blocks keeps = tt
-    returned-keeps state others frame to NoRow keeps = tt
+    after_call-keeps state others frame to (Traps trap) keeps = tt
+    after_call-keeps state others frame to Blocks keeps = tt
+    after_call-keeps state others frame to NoRow keeps = tt
 
     ends-keep : (state : State) (thread : Thread) (frame : Frame) (result : ℕ) → Within state →
         EffectKeeps Within Between (ends_with state number thread frame result)
@@ -210,8 +210,8 @@ module _ (setting : Setting) (number : ℕ) (Holds : List Thread → List Object
         let others = made_by setting.code which values in
         by_test (EffectKeeps Within Between) (is_blocked (shared_of state) number which decided) _ _
         (λ h. tt)
-        (λ h. returned-keeps state others frame to (call_of (shared_of state) number which values decided)
-        (call-keeps (λ (call : Returned). Between (returned state others number frame to call)) state which values decided holds))
+        (λ h. after_call-keeps state others frame to (call_of (shared_of state) number which values decided)
+        (call-keeps (λ (call : Returned). Between (after_call state others number frame to call)) state which values decided holds))
     visible-keeps state thread frame decided (Ret value) holds = ends-keep state thread frame _ holds
     visible-keeps state thread frame decided inst holds =
         mapped-keeps state (effect_of setting number (footprint_of state thread) frame decided inst)
@@ -222,7 +222,7 @@ module _ (setting : Setting) (number : ℕ) (Holds : List Thread → List Object
   module _ (Between : State → Type 0)
       (waits : (state : State) (footprint : Footprint) (frame : Frame) (placed : Placed) →
       top footprint.thread ≡ Some frame → next_in setting.code frame ≡ Some placed → Within (put_back state number footprint) →
-      Between (put_back state number (waiting footprint placed.site (addresses_of frame placed.inst))))
+      Between (put_back state number (made_pending footprint placed.site (addresses_of frame placed.inst))))
       (over : (state : State) (thread : Thread) → slice_get state.threads number ≡ Some thread → has_ended thread ≡ true →
       Within state → Between state) where
     abbrev InStep : State → Step Footprint → Type 0

@@ -3,14 +3,14 @@ use Rattle.std.proofs.Common.{◌≡◌, ℕ, zero, suc, ◌+◌, List, refl, ar
 use Rattle.machine_model.specs.declared.run.Outcome.{Outcome}
 use Rattle.machine_model.specs.declared.run.Outcome.TheVariants as outcomes
 use Rattle.machine_model.specs.declared.run.Run.{Run}
-use Rattle.machine_model.specs.Run.{Course, advanced, begun, run_from, run_of, told}
+use Rattle.machine_model.specs.Run.{Course, advanced, first_course, run_from, run_of, concluded}
 use Rattle.machine_model.specs.Run.Advance.{Onward, Over}
 use Rattle.machine_model.specs.System.{System}
 
-pub run-begun : {S : Type 0} (most : ℕ) (system : System S) (listed : List ℕ) (steps : ℕ) (course : Course S) →
-    most ≡ steps + 1 → course ≡ begun system steps → run_from most system listed course ≡ run_of system listed steps
+pub run-first_course : {S : Type 0} (most : ℕ) (system : System S) (listed : List ℕ) (steps : ℕ) (course : Course S) →
+    most ≡ steps + 1 → course ≡ first_course system steps → run_from most system listed course ≡ run_of system listed steps
 unfolding run_of
-run-begun most system listed steps course all is = rw (all, is) refl
+run-first_course most system listed steps course all is = rw (all, is) refl
 
 -- after a turn the run goes on with one turn less
 pub run-onward : {S : Type 0} (most rest : ℕ) (system : System S) (listed : List ℕ) (course next : Course S)
@@ -26,14 +26,14 @@ run-onward (suc most) rest system listed course next run count is from =
 pub run-over : {S : Type 0} (most rest : ℕ) (system : System S) (listed : List ℕ) (course last : Course S)
     (outcome : Outcome) (run : Run) →
     most ≡ rest + 1 → advanced system listed course ≡ Over last outcome →
-    run_from most system listed course ≡ run → told system last outcome ≡ run
+    run_from most system listed course ≡ run → concluded system last outcome ≡ run
 unfolding run_from
 run-over zero rest system listed course last outcome run count is from = absurd (omega arith)
 run-over (suc most) rest system listed course last outcome run count is from = rw is at from
 
 -- where no turn is allowed any more, it is spent
 pub run-spent : {S : Type 0} (most : ℕ) (system : System S) (listed : List ℕ) (course : Course S) (run : Run) →
-    most ≡ 0 → run_from most system listed course ≡ run → told system course outcomes.Spent ≡ run
+    most ≡ 0 → run_from most system listed course ≡ run → concluded system course outcomes.Spent ≡ run
 unfolding run_from
 run-spent zero system listed course run none from = from
 run-spent (suc most) system listed course run none from = absurd (omega arith)

@@ -8,11 +8,11 @@ use Rattle.machine_model.specs.declared.run.Reason.TheVariants.{Stuck, Repeats, 
 use Rattle.machine_model.specs.declared.run.TurnEnd.{TurnEnd}
 use Rattle.machine_model.specs.declared.run.TurnEnd.TheVariants as ends
 use Rattle.machine_model.specs.Hold.{Held, held_after, held_from, held_over, held_with}
-use Rattle.machine_model.specs.Hold.Held.{Done, NotEnforced, Ran}
+use Rattle.machine_model.specs.Hold.Held.{Reordered, NotEnforced, RunOver}
 use Rattle.machine_model.specs.Policy.{Choice, choose}
 use Rattle.machine_model.specs.Reach.{does_second}
-use Rattle.machine_model.specs.Repeat.{Snapshot, repeats, snapshot}
-use Rattle.machine_model.specs.Run.{Advance, Course, advanced_by, advanced_with, after_turn, told}
+use Rattle.machine_model.specs.Repeat.{Snapshot, repeats, snapshot_of}
+use Rattle.machine_model.specs.Run.{Advance, Course, advanced_by, advanced_with, after_turn, concluded}
 use Rattle.machine_model.specs.Run.Advance.{Onward, Over}
 use Rattle.machine_model.specs.System.{System}
 
@@ -29,7 +29,7 @@ LeadsTo system course choice advance = advanced_with system course (Some choice)
 
 -- what holds of each way in which a hold ends, holds of a hold of at most so many turns
 pub record EachEnd {S : Type 0} (system : System S) (listed : List ℕ) (race : Race) (first : Access) (P : ℕ → List (Snapshot S) → Course S → Held S → Type 0) : Type 0 where
-  pub spent : (past : List (Snapshot S)) (course : Course S) → P 0 past course (Ran (told system course outcomes.Spent))
+  pub spent : (past : List (Snapshot S)) (course : Course S) → P 0 past course (RunOver (concluded system course outcomes.Spent))
   pub diverged : (most : ℕ) (past : List (Snapshot S)) (course : Course S) →
       system.ended course.state race.t2 ≡ true → P most past course (NotEnforced Diverged course)
   pub stuck : (most : ℕ) (past : List (Snapshot S)) (course : Course S) →
@@ -41,14 +41,14 @@ pub record EachEnd {S : Type 0} (system : System S) (listed : List ℕ) (race : 
       IsTurn system listed course choice next →
       LeadsTo system course choice (Onward next) →
       does_second system race first (record { before = course; thread = choice.thread }) ≡ true →
-      P most past course (Done (past ++ snapshot next ∷ []) next)
+      P most past course (Reordered (past ++ snapshot_of next ∷ []) next)
   pub repeated : (most : ℕ) (past : List (Snapshot S)) (course next : Course S) (choice : Choice) →
       IsTurn system listed course choice next →
-      LeadsTo system course choice (Onward next) → repeats system past (snapshot next) ≡ true →
+      LeadsTo system course choice (Onward next) → repeats system past (snapshot_of next) ≡ true →
       P most past course (NotEnforced Repeats next)
   pub onward : (most : ℕ) (past : List (Snapshot S)) (course next : Course S) (choice : Choice) (ending : Held S) →
       IsTurn system listed course choice next → LeadsTo system course choice (Onward next) →
-      P most (past ++ snapshot next ∷ []) next ending → P (suc most) past course ending
+      P most (past ++ snapshot_of next ∷ []) next ending → P (suc most) past course ending
 
 ends-after : {S : Type 0} (system : System S) (listed : List ℕ) (race : Race) (first : Access)
     (P : ℕ → List (Snapshot S) → Course S → Held S → Type 0) → EachEnd system listed race first P → (most : ℕ)
@@ -57,14 +57,14 @@ ends-after : {S : Type 0} (system : System S) (listed : List ℕ) (race : Race) 
     (past : List (Snapshot S)) (course next : Course S) (choice : Choice) (done again : Bool) (end : TurnEnd) →
     IsTurn system listed course choice next → LeadsTo system course choice (advanced_by choice.thread next end) →
     does_second system race first (record { before = course; thread = choice.thread }) ≡ done →
-    repeats system past (snapshot next) ≡ again →
+    repeats system past (snapshot_of next) ≡ again →
     P (suc most) past course (held_after system go past done (advanced_by choice.thread next end))
 ends-after system listed race first P each most go rest past course next choice true again ends.Going is leads does repeat =
     each.done (suc most) past course next choice is leads does
 ends-after system listed race first P each most go rest past course next choice false true ends.Going is leads does repeat =
     rw repeat (each.repeated (suc most) past course next choice is leads repeat)
 ends-after system listed race first P each most go rest past course next choice false false ends.Going is leads does repeat =
-    let later = past ++ snapshot next ∷ [] in
+    let later = past ++ snapshot_of next ∷ [] in
     let on = each.onward most past course next choice (go later next) is leads (rest later next) in
     rw repeat on
 ends-after system listed race first P each most go rest past course next choice done again (ends.Exit status) is leads does repeat =
@@ -86,7 +86,7 @@ ends-with system listed race first P each most go rest past course (Some choice)
     let turned = system.turn course.state choice.thread course.left in
     let next = after_turn course choice turned in
     ends-after system listed race first P each most go rest past course next choice
-    (does_second system race first (record { before = course; thread = choice.thread })) (repeats system past (snapshot next))
+    (does_second system race first (record { before = course; thread = choice.thread })) (repeats system past (snapshot_of next))
     turned.end (record { chosen = chosen; next_is = refl; turns = refl; policy = refl }) refl refl refl
 
 ends-unless : {S : Type 0} (P : Held S → Type 0) (test : Bool) (ended other : Held S) → (test ≡ true → P ended) →

@@ -1,7 +1,7 @@
 -- What every hold has: the held thread waits, and each way of ending has its cause.
 use Rattle.std.proofs.Common.{◌≡◌, ◌≢◌, ℕ, Bool, true, false, ◌&&◌, eqb, ltb, List, ◌∷◌, [], ◌++◌, length, Option, Some, None, All, refl, sym, ap, ◌∙◌, append_assoc}
 use Rattle.std.specs.Prelude.{Contains, slice_get}
-use Rattle.std.proofs.lemmas.Bool.{eqb-false, eqb-true, ltb-true}
+use Rattle.std.proofs.lemmas.Bool.{and_parts, eqb-false, eqb-true, ltb-true}
 use Rattle.std.proofs.lemmas.List.{append-nil}
 use Rattle.std.proofs.lemmas.List.Elements.{All-contains_itself, All-cons, All-head, All-nil, All-tail}
 use Rattle.machine_model.specs.declared.mode.Mode.TheVariants.{Hold}
@@ -10,14 +10,17 @@ use Rattle.machine_model.specs.declared.run.Outcome.{Outcome}
 use Rattle.machine_model.specs.declared.run.Outcome.TheVariants as outcomes
 use Rattle.machine_model.specs.declared.run.Reason.TheVariants.{Stuck, Repeats, Ended, Diverged}
 use Rattle.machine_model.specs.declared.access.Access.{Access}
+use Rattle.machine_model.specs.Access.{is_site, overlaps}
 use Rattle.machine_model.specs.Hold.{Held, held_over}
-use Rattle.machine_model.specs.Hold.Held.{Done, NotEnforced, Ran}
-use Rattle.machine_model.specs.HoldLaws.{CameTo, DidRepeat, EndsHaveCauses, HasCause, HeldThreadWaits, HoldTurn, turns_of_hold}
+use Rattle.machine_model.specs.Hold.Held.{Reordered, NotEnforced, RunOver}
+use Rattle.machine_model.specs.HoldLaws.{CameTo, DidRepeat, DoesSecond, EndsHaveCauses, HasCause, HeldThreadWaits, HoldTurn, turns_of_hold}
 use Rattle.machine_model.specs.HoldLaws.Comes.{Here, Later}
+use Rattle.machine_model.specs.Moment.{Moment, access_at}
 use Rattle.machine_model.specs.Policy.{Choice, choose}
 use Rattle.machine_model.specs.PolicyLaws.{mode_after}
-use Rattle.machine_model.specs.Repeat.{Snapshot, earlier_turn, is_repeat, repeats, snapshot}
-use Rattle.machine_model.specs.Run.{Advance, Course, advanced, told}
+use Rattle.machine_model.specs.Reach.{does_second, is_second}
+use Rattle.machine_model.specs.Repeat.{Snapshot, earlier_turn, is_repeat, repeats, snapshot_of}
+use Rattle.machine_model.specs.Run.{Advance, Course, advanced, concluded}
 use Rattle.machine_model.specs.Run.Advance.{Onward, Over}
 use Rattle.machine_model.specs.System.{System}
 use Rattle.machine_model.proofs.HoldCases.{IsTurn, LeadsTo, each-hold}
@@ -76,13 +79,13 @@ held-waits {S} system most listed race first past course =
     each-hold system listed race first
     (λ (most : ℕ) (past : List (Snapshot S)) (course : Course S) (ending : Held S). course.policy.mode ≡ Hold race.t1 → Adds race.t1 course.turns ending)
     (record {
-      spent = λ past course mode. adds-none {S = S} race.t1 course.turns (Ran (told system course outcomes.Spent)) refl;
+      spent = λ past course mode. adds-none {S = S} race.t1 course.turns (RunOver (concluded system course outcomes.Spent)) refl;
       diverged = λ most past course ended mode. adds-none {S = S} race.t1 course.turns (NotEnforced Diverged course) refl;
       stuck = λ most past course none mode. adds-none {S = S} race.t1 course.turns (NotEnforced Stuck course) refl;
       over = λ most past course next choice outcome is leads.
           last-turn system listed race.t1 course next choice (held_over system next outcome) is (over-turns system next outcome);
       done = λ most past course next choice is leads does.
-          last-turn system listed race.t1 course next choice (Done (past ++ snapshot next ∷ []) next) is refl;
+          last-turn system listed race.t1 course next choice (Reordered (past ++ snapshot_of next ∷ []) next) is refl;
       repeated = λ most past course next choice is leads again.
           last-turn system listed race.t1 course next choice (NotEnforced Repeats next) is refl;
       onward = λ most past course next choice ending is leads rest mode.
@@ -129,7 +132,7 @@ came-at_once system listed past course = record { snapshots = past; comes = Here
 -- the first turn of a hold, and what the hold after it gives
 module _ {S : Type 0} (system : System S) (listed : List ℕ) (past : List (Snapshot S)) (course next : Course S) (choice : Choice) (is : IsTurn system listed course choice next) where
   abbrev later-came : (after : Course S) → LeadsTo system course choice (Onward next) →
-      CameTo system listed (past ++ snapshot next ∷ []) next after → CameTo system listed past course after
+      CameTo system listed (past ++ snapshot_of next ∷ []) next after → CameTo system listed past course after
   later-came after leads came = record {
     snapshots = came.snapshots;
     comes = Later past course next (advances system listed course next choice (Onward next) is leads) came.comes;
@@ -146,7 +149,7 @@ module _ {S : Type 0} (system : System S) (listed : List ℕ) (past : List (Snap
   }
 
   abbrev later-turn : (advance : Advance S) → LeadsTo system course choice (Onward next) →
-      HoldTurn system listed (past ++ snapshot next ∷ []) next advance → HoldTurn system listed past course advance
+      HoldTurn system listed (past ++ snapshot_of next ∷ []) next advance → HoldTurn system listed past course advance
   later-turn advance leads turn = record {
     before = turn.before;
     came = later-came turn.before leads turn.came;
@@ -155,14 +158,14 @@ module _ {S : Type 0} (system : System S) (listed : List ℕ) (past : List (Snap
     leads = turn.leads;
   }
 
-  repeated-cause : LeadsTo system course choice (Onward next) → repeats system past (snapshot next) ≡ true →
+  repeated-cause : LeadsTo system course choice (Onward next) → repeats system past (snapshot_of next) ≡ true →
       DidRepeat system listed past course next
   unfolding repeats
   repeated-cause leads again = go (ltb 1 (length past)) (slice_get past (earlier_turn (length past))) refl refl again
     where
       go : (long : Bool) (found : Option (Snapshot S)) → ltb 1 (length past) ≡ long →
           slice_get past (earlier_turn (length past)) ≡ found →
-          (long && is_repeat system (snapshot next) found) ≡ true →
+          (long && is_repeat system (snapshot_of next) found) ≡ true →
           DidRepeat system listed past course next
       go false found short is again = absurd (let h : ⊥ = cc in h)
       go true None long is again = absurd (let h : ⊥ = cc in h)
@@ -183,9 +186,9 @@ module _ {S : Type 0} (system : System S) (listed : List ℕ) (past : List (Snap
   over-cause race first outcomes.Spent leads = tt
 
   onward-cause : (race : Race) (first : Access) (ending : Held S) → LeadsTo system course choice (Onward next) →
-      HasCause system listed race first (past ++ snapshot next ∷ []) next ending →
+      HasCause system listed race first (past ++ snapshot_of next ∷ []) next ending →
       HasCause system listed race first past course ending
-  onward-cause race first (Done snapshots after) leads cause = record {
+  onward-cause race first (Reordered snapshots after) leads cause = record {
     last = later-turn (Onward after) leads cause.last;
     does = cause.does;
     noted = cause.noted;
@@ -202,7 +205,28 @@ module _ {S : Type 0} (system : System S) (listed : List ℕ) (past : List (Snap
   }
   onward-cause race first (NotEnforced Ended after) leads cause =
       (cause.0, later-turn (Over after (outcomes.Exit cause.0)) leads cause.1)
-  onward-cause race first (Ran run) leads cause = tt
+  onward-cause race first (RunOver run) leads cause = tt
+
+-- the turn that ends a hold does the second access
+does-second : {S : Type 0} (system : System S) (race : Race) (first : Access) (moment : Moment S) →
+    does_second system race first moment ≡ true → DoesSecond system race first moment
+does-second {S} system race first moment does = go (access_at system moment) refl parts.1
+  where
+    parts : ((eqb moment.thread race.t2) ≡ true) × (is_second race first (access_at system moment) ≡ true)
+    parts = and_parts (eqb moment.thread race.t2) (is_second race first (access_at system moment)) does
+
+    go : (access : Option Access) → access_at system moment ≡ access → is_second race first access ≡ true →
+        DoesSecond system race first moment
+    go None is second = absurd (let h : ⊥ = cc in h)
+    go (Some access) is second =
+        let test = and_parts (is_site access.site race.s2) (overlaps access first) second in
+        record {
+          thread = eqb-true moment.thread race.t2 parts.0;
+          access = access;
+          is_done = is;
+          at_site = test.0;
+          overlap = test.1;
+        }
 
 pub ends-have_causes : {S : Type 0} (system : System S) → EndsHaveCauses system
 ends-have_causes system most listed race first past course =
@@ -216,7 +240,7 @@ ends-have_causes system most listed race first past course =
           over-cause system listed past course next choice is race first outcome leads;
       done = λ most past course next choice is leads does. record {
         last = first-turn system listed past course next choice is (Onward next) leads;
-        does = does;
+        does = does-second system race first (record { before = course; thread = choice.thread }) does;
         noted = refl;
       };
       repeated = λ most past course next choice is leads again.

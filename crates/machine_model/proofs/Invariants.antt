@@ -1,5 +1,5 @@
 -- What each step of a turn keeps, the turn keeps, and each moment of a run has.
-use Rattle.std.proofs.Common.{◌≡◌, ℕ, zero, suc, ◌+◌, true, leb, eqb, List, [], ◌++◌, set, Option, Some, None, refl, sym, ap, ◌∙◌, subst}
+use Rattle.std.proofs.Common.{◌≡◌, ℕ, zero, suc, ◌+◌, ◌-◌, true, List, [], ◌++◌, set, Option, Some, None, refl, sym, ap, ◌∙◌, subst}
 use Rattle.std.specs.Prelude.{slice_get, All}
 use Rattle.std.proofs.lemmas.List.{set-get_or}
 use Rattle.std.proofs.lemmas.List.Elements.{All-cons, All-nil}
@@ -14,15 +14,16 @@ use Rattle.machine_model.specs.Effect.Effect.{Done, Pauses, Exits, Traps, Blocks
 use Rattle.machine_model.specs.Moment.{Moment, moments_from, moments_of, moments_with, onward_or_none}
 use Rattle.machine_model.specs.Operation.{footprint_of, put_back}
 use Rattle.machine_model.specs.Policy.{Choice, choose}
-use Rattle.machine_model.specs.Run.{Course, advanced_by, after_turn, begun}
+use Rattle.machine_model.specs.Run.{Course, advanced_by, after_turn, first_course}
 use Rattle.machine_model.specs.System.{System}
 use Rattle.machine_model.specs.Setting.{Setting}
 use Rattle.machine_model.specs.Step.{Step, first_step, next_step}
-use Rattle.machine_model.specs.Step.Step.{Waits, Runs, Starts, Lacks}
+use Rattle.machine_model.specs.Step.Step.{Waits, Does, Starts, Lacks}
 use Rattle.machine_model.specs.Thread.{has_ended}
-use Rattle.machine_model.specs.Turn.{Turned, Move, charged, paid, ran, ran_on, rest_of_turn, then_on, turn, turn_of, went_on}
+use Rattle.machine_model.specs.Turn.{Turned, Move, led_by, paid, steps_within, steps_from, rest_of_turn, continued, turn, turn_of, rest_of}
 use Rattle.machine_model.specs.Turn.Move.{Leads, Stops}
 use Rattle.machine_model.proofs.Cases.{by_test}
+use Rattle.machine_model.proofs.Payment.{each-afforded, each-charged}
 
 -- of what holds within a turn, and of what holds where its thread's next operation is pending
 abbrev pub EffectKeeps : {S : Type 0} → (S → Type 0) → (S → Type 0) → Effect S → Type 0
@@ -35,7 +36,7 @@ EffectKeeps Within Between NoRow = Unit {0}
 
 abbrev pub StepKeeps : {S : Type 0} → (S → Type 0) → (S → Type 0) → Step S → Type 0
 StepKeeps Within Between (Waits after addresses) = Between after
-StepKeeps Within Between (Runs numbers site effect) = EffectKeeps Within Between effect
+StepKeeps Within Between (Does numbers site effect) = EffectKeeps Within Between effect
 StepKeeps Within Between Starts = Unit {0}
 StepKeeps Within Between Lacks = Unit {0}
 
@@ -51,36 +52,34 @@ MoveKeeps Within Between (Leads after left decided) = Within after
 MoveKeeps Within Between (Stops turned) = AtEnd Within Between turned.end turned.after
 
 module _ {S : Type 0} (Within Between : S → Type 0) (before : S) (left : ℕ) (holds : Within before) where
-  charged-keeps : (decided : List ℕ) (site : Site) (effect : Effect S) → EffectKeeps Within Between effect →
-      MoveKeeps Within Between (charged before left decided site effect)
-  unfolding charged
-  charged-keeps decided site (Done more after) keeps =
-      by_test (MoveKeeps Within Between) (leb left more) _ _ (λ h. holds) (λ h. keeps)
-  charged-keeps decided site (Pauses more after) keeps =
-      by_test (MoveKeeps Within Between) (leb left more) _ _ (λ h. holds) (λ h. keeps)
-  charged-keeps decided site (Exits more status after) keeps =
-      by_test (MoveKeeps Within Between) (leb left more) _ _ (λ h. holds) (λ h. keeps)
-  charged-keeps decided site (Traps trap) keeps =
-      by_test (MoveKeeps Within Between) (eqb left 0) _ _ (λ h. holds) (λ h. holds)
-  charged-keeps decided site Blocks keeps = holds
-  charged-keeps decided site NoRow keeps = holds
+  led-keeps : (rest : ℕ) (decided : List ℕ) (site : Site) (effect : Effect S) → EffectKeeps Within Between effect →
+      MoveKeeps Within Between (led_by before rest decided site effect)
+  led-keeps rest decided site (Done more after) keeps = keeps
+  led-keeps rest decided site (Pauses more after) keeps = keeps
+  led-keeps rest decided site (Exits more status after) keeps = keeps
+  led-keeps rest decided site (Traps trap) keeps = holds
+  led-keeps rest decided site Blocks keeps = holds
+  led-keeps rest decided site NoRow keeps = holds
 
   pub paid-keeps : (decided : List ℕ) (step : Step S) → StepKeeps Within Between step →
       MoveKeeps Within Between (paid before left decided step)
   unfolding paid
   paid-keeps decided (Waits after addresses) keeps = keeps
-  paid-keeps decided (Runs numbers site effect) keeps = charged-keeps (decided ++ numbers) site effect keeps
+  paid-keeps decided (Does numbers site effect) keeps =
+      each-charged (MoveKeeps Within Between) before left (decided ++ numbers) site effect holds
+      (λ price is some room. led-keeps (left - price) (decided ++ numbers) site effect keeps)
   paid-keeps decided Starts keeps =
-      by_test (MoveKeeps Within Between) (eqb left 0) _ _ (λ h. holds) (λ h. holds)
+      each-afforded (MoveKeeps Within Between) before left decided (λ rest. Leads before rest decided) (Some 1) holds
+      (λ price is room. holds)
   paid-keeps decided Lacks keeps = holds
 
-then_on-keeps : {S : Type 0} (Within Between : S → Type 0) (go : S → ℕ → List ℕ → Turned S) (move : Move S) →
+continued-keeps : {S : Type 0} (Within Between : S → Type 0) (go : S → ℕ → List ℕ → Turned S) (move : Move S) →
     MoveKeeps Within Between move →
     ((after : S) (left : ℕ) (decided : List ℕ) → Within after →
     let turned = go after left decided in AtEnd Within Between turned.end turned.after) →
-    let turned = then_on go move in AtEnd Within Between turned.end turned.after
-then_on-keeps Within Between go (Leads after left decided) keeps goes = goes after left decided keeps
-then_on-keeps Within Between go (Stops turned) keeps goes = keeps
+    let turned = continued go move in AtEnd Within Between turned.end turned.after
+continued-keeps Within Between go (Leads after left decided) keeps goes = goes after left decided keeps
+continued-keeps Within Between go (Stops turned) keeps goes = keeps
 
 -- each step of a thread with this number keeps it
 pub record StepsKeep (setting : Setting) (number : ℕ) (Within Between : State → Type 0) : Type 0 where
@@ -99,18 +98,18 @@ module _ (setting : Setting) (number : ℕ) (Within Between : State → Type 0) 
   abbrev BetweenAt : State → Footprint → Type 0
   BetweenAt state footprint = Between (put_back state number footprint)
 
-  ran-keeps : (state : State) (most : ℕ) (footprint : Footprint) (left : ℕ) (decided : List ℕ) →
+  steps_within-keeps : (state : State) (most : ℕ) (footprint : Footprint) (left : ℕ) (decided : List ℕ) →
       WithinAt state footprint →
-      let turned = ran most setting number footprint left decided in
+      let turned = steps_within most setting number footprint left decided in
       AtEnd (WithinAt state) (BetweenAt state) turned.end turned.after
-  unfolding ran
-  ran-keeps state zero footprint left decided holds = holds
-  ran-keeps state (suc most) footprint left decided holds =
-      then_on-keeps (WithinAt state) (BetweenAt state) (ran most setting number)
+  unfolding steps_within
+  steps_within-keeps state zero footprint left decided holds = holds
+  steps_within-keeps state (suc most) footprint left decided holds =
+      continued-keeps (WithinAt state) (BetweenAt state) (steps_within most setting number)
       (paid footprint left decided (next_step setting number footprint))
       (paid-keeps (WithinAt state) (BetweenAt state) footprint left holds decided (next_step setting number footprint)
       (steps.next state footprint holds))
-      (ran-keeps state most)
+      (steps_within-keeps state most)
 
   put-back-itself : (state : State) (thread : Thread) → slice_get state.threads number ≡ Some thread →
       state ≡ put_back state number (footprint_of state thread)
@@ -126,16 +125,16 @@ module _ (setting : Setting) (number : ℕ) (Within Between : State → Type 0) 
   at_end state (ends.Trap trap site) after holds = holds
   at_end state ends.Spent after holds = holds
 
-  went_on-keeps : (state : State) (left : ℕ) (decided : List ℕ) (thread : Option Thread) →
+  rest_of-keeps : (state : State) (left : ℕ) (decided : List ℕ) (thread : Option Thread) →
       slice_get state.threads number ≡ thread → Within state →
-      let turned = went_on setting number state left decided thread in AtEnd Within Between turned.end turned.after
-  went_on-keeps state left decided None is holds = holds
-  went_on-keeps state left decided (Some thread) is holds =
+      let turned = rest_of setting number state left decided thread in AtEnd Within Between turned.end turned.after
+  rest_of-keeps state left decided None is holds = holds
+  rest_of-keeps state left decided (Some thread) is holds =
       by_test (λ (turned : Turned State). AtEnd Within Between turned.end turned.after) (has_ended thread) _ _
       (λ h. steps.over state thread is h holds)
-      (λ h. let turned = ran_on setting number (footprint_of state thread) left decided in
+      (λ h. let turned = steps_from setting number (footprint_of state thread) left decided in
       at_end state turned.end turned.after
-      (ran-keeps state (left + 1) (footprint_of state thread) left decided
+      (steps_within-keeps state (left + 1) (footprint_of state thread) left decided
       (subst Within (put-back-itself state thread is) holds)))
 
   -- so the turn keeps it
@@ -148,12 +147,12 @@ module _ (setting : Setting) (number : ℕ) (Within Between : State → Type 0) 
           let turned = turn_of setting state number left thread in AtEnd Within Between turned.end turned.after
       by_thread None = holds
       by_thread (Some thread) =
-          then_on-keeps Within Between (rest_of_turn setting number)
+          continued-keeps Within Between (rest_of_turn setting number)
           (paid state left [] (first_step setting state number thread thread.pending))
           (paid-keeps Within Between state left holds [] (first_step setting state number thread thread.pending)
           (steps.first state thread holds))
           (λ after rest decided keeps.
-          went_on-keeps after rest decided (slice_get after.threads number) refl keeps)
+          rest_of-keeps after rest decided (slice_get after.threads number) refl keeps)
 
 -- where the same holds within turns and between them
 pub at_each_end : {S : Type 0} (Holds : S → Type 0) (end : TurnEnd) (after : S) → AtEnd Holds Holds end after → Holds after
@@ -199,4 +198,4 @@ module _ {S : Type 0} (system : System S) (Holds : S → Type 0)
 
   pub moments-hold : (listed : List ℕ) (steps : ℕ) → Holds system.start → HasMoments (moments_of system listed steps)
   unfolding moments_of
-  moments-hold listed steps holds = moments_from-hold (steps + 1) listed (begun system steps) holds
+  moments-hold listed steps holds = moments_from-hold (steps + 1) listed (first_course system steps) holds

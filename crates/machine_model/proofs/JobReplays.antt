@@ -18,9 +18,9 @@ use Rattle.machine_model.specs.declared.run.TurnEnd.TheVariants as ends
 use Rattle.machine_model.specs.declared.state.State.{State}
 use Rattle.machine_model.specs.Begun.{released_course}
 use Rattle.machine_model.specs.Hold.{Held, held_from, held_over}
-use Rattle.machine_model.specs.Hold.Held.{Done, NotEnforced, Ran}
-use Rattle.machine_model.specs.Job.{HeldOn, HoldPoint, held_course, held_on, hold_point, point_at, point_in, snapshots}
-use Rattle.machine_model.specs.Job.Alternate.{Runs}
+use Rattle.machine_model.specs.Hold.Held.{Reordered, NotEnforced, RunOver}
+use Rattle.machine_model.specs.Job.{hold_of, HoldPoint, held_course, hold_at, point_of, point_at, point_in, snapshots}
+use Rattle.machine_model.specs.Job.Alternate.{Ran}
 use Rattle.machine_model.specs.JobLaws.{IsRepeat}
 use Rattle.machine_model.specs.JobReplays.{AlternateReplays, PrimaryJobReplays}
 use Rattle.machine_model.specs.Moment.{Moment, access_at, from_turn, moments_from, moments_of, moments_with, onward_or_none}
@@ -28,7 +28,7 @@ use Rattle.machine_model.specs.Policy.{Choice, choose, from_front}
 use Rattle.machine_model.specs.Primary.{setting_of}
 use Rattle.machine_model.specs.Reach.{Reaches, from_first, primary_moments}
 use Rattle.machine_model.specs.Repeat.{Snapshot}
-use Rattle.machine_model.specs.Run.{Course, advanced_by, advanced_with, begun, run_from, run_of, told}
+use Rattle.machine_model.specs.Run.{Course, advanced_by, advanced_with, first_course, run_from, run_of, concluded}
 use Rattle.machine_model.specs.Run.Advance.{Onward, Over}
 use Rattle.machine_model.specs.System.{System, machine_of}
 use Rattle.machine_model.specs.SystemLaws.{IsSystem, MayDo}
@@ -134,9 +134,9 @@ Keeps system held first course next = MayDo system course.state held first → M
 
 -- what a hold leads to from a course on
 abbrev pub Resumes : {S : Type 0} → System S → ℕ → Access → Course S → Held S → Type 0
-Resumes system held first course (Done past after) = Leads system course after × Keeps system held first course after
+Resumes system held first course (Reordered past after) = Leads system course after × Keeps system held first course after
 Resumes system held first course (NotEnforced reason after) = Unit {0}
-Resumes system held first course (Ran run) = Begins course.turns run.turns × Returns system run.turns course run
+Resumes system held first course (RunOver run) = Begins course.turns run.turns × Returns system run.turns course run
 
 among : {S : Type 0} (system : System S) (listed : List ℕ) (course next : Course S) (choice : Choice) →
     IsTurn system listed course choice next → IsEnabled system course choice.thread
@@ -147,10 +147,10 @@ among system listed course next choice is =
 last-turn : {S : Type 0} (system : System S) (facts : IsSystem system) (listed : List ℕ) (course next : Course S)
     (choice : Choice) (outcome : Outcome) →
     IsTurn system listed course choice next → LeadsTo system course choice (Over next outcome) →
-    Begins course.turns next.turns × Returns system next.turns course (told system next outcome)
+    Begins course.turns next.turns × Returns system next.turns course (concluded system next outcome)
 last-turn system facts listed course next choice outcome is leads = (
   (choice.thread ∷ [], is.turns),
-  returns-turn system facts next.turns (told system next outcome) course choice (among system listed course next choice is)
+  returns-turn system facts next.turns (concluded system next outcome) course choice (among system listed course next choice is)
       (listed-next course.turns choice.thread next.turns (rw is.turns (Begins-itself (course.turns ++ choice.thread ∷ []))))
       (rw leads refl),
 )
@@ -184,12 +184,12 @@ onward-resumes : {S : Type 0} (system : System S) (held : ℕ) (access : Access)
     (ending : Held S) →
     Leads system course next × Keeps system held access course next → Resumes system held access next ending →
     Resumes system held access course ending
-onward-resumes system held access course next (Done past after) first rest = (
+onward-resumes system held access course next (Reordered past after) first rest = (
   leads-on system course next after first.0 rest.0,
   λ may. rest.1 (first.1 may),
 )
 onward-resumes system held access course next (NotEnforced reason after) first rest = tt
-onward-resumes system held access course next (Ran run) first rest =
+onward-resumes system held access course next (RunOver run) first rest =
     (Begins-on course.turns next.turns run.turns first.0.begins rest.0, first.0.back run.turns run rest.0 rest.1)
 
 pub hold-resumes : {S : Type 0} (most : ℕ) (system : System S) (facts : IsSystem system) (listed : List ℕ)
@@ -232,9 +232,9 @@ released-returns system facts listed again race first course run may is same =
 ending-returns : {S : Type 0} (system : System S) (facts : IsSystem system) (listed : List ℕ) (race : Race)
     (first : Access) (course : Course S) (ending : Held S)
     (run : Run) → MayDo system course.state race.t1 first → Resumes system race.t1 first course ending →
-    alternate_after system listed race (Some ending) ≡ Runs run → ¬ IsRepeat run.outcome →
+    alternate_after system listed race (Some ending) ≡ Ran run → ¬ IsRepeat run.outcome →
     Begins course.turns run.turns × Returns system run.turns course run
-ending-returns system facts listed race first course (Done past after) run may resumes is never =
+ending-returns system facts listed race first course (Reordered past after) run may resumes is never =
     let ran : tested_on system listed past (released_course race.t1 after) ≡ run = cc in
     let untested : run_from (after.left + 1) system listed (released_course race.t1 after) ≡ run =
     sym (tested_from-agrees (after.left + 1) system listed past (released_course race.t1 after) (rw ran never)) ∙ ran in
@@ -244,40 +244,40 @@ ending-returns system facts listed race first course (Done past after) run may r
       resumes.0.back run.turns run rest.0 rest.1,
     )
 ending-returns system facts listed race first course (NotEnforced reason after) run may resumes is never = absurd (let h : ⊥ = cc in h)
-ending-returns system facts listed race first course (Ran other) run may resumes is never =
+ending-returns system facts listed race first course (RunOver other) run may resumes is never =
     let same : other ≡ run = cc in rw (← same) resumes
 
 -- from the start on
 point-returns : {S : Type 0} (system : System S) (facts : IsSystem system) (listed : List ℕ) (race : Race)
     (steps : ℕ) (point : HoldPoint S) (run : Run) →
-    IsPoint system (begun system steps) race point →
-    alternate_after system listed race (Some (held_on system listed race point)) ≡ Runs run → ¬ IsRepeat run.outcome →
+    IsPoint system (first_course system steps) race point →
+    alternate_after system listed race (Some (hold_at system listed race point)) ≡ Ran run → ¬ IsRepeat run.outcome →
     run_of system run.turns steps ≡ run
 unfolding run_of
 point-returns system facts listed race steps point run at is never =
     let course = held_course race.t1 point.course in
     let resumes = hold-resumes (point.course.left + 1) system facts listed race point.first point.past course (omega arith) refl in
-    let returns = ending-returns system facts listed race point.first course (held_on system listed race point) run at.may_do resumes is never in
+    let returns = ending-returns system facts listed race point.first course (hold_at system listed race point) run at.may_do resumes is never in
     at.leads.back run.turns run returns.0 returns.1 (steps + 1) from_front (omega arith) (refl, refl)
 
 held-returns : {S : Type 0} (system : System S) (facts : IsSystem system) (listed : List ℕ) (race : Race)
     (steps : ℕ) (run : Run) (reaches : Bool)
     (point : Option (HoldPoint S)) →
-    ((one : HoldPoint S) → point ≡ Some one → IsPoint system (begun system steps) race one) →
-    alternate_after system listed race (cond reaches (option_map (held_on system listed race) point) None) ≡ Runs run →
+    ((one : HoldPoint S) → point ≡ Some one → IsPoint system (first_course system steps) race one) →
+    alternate_after system listed race (cond reaches (option_map (hold_at system listed race) point) None) ≡ Ran run →
     ¬ IsRepeat run.outcome → run_of system run.turns steps ≡ run
 held-returns system facts listed race steps run false point at is never = absurd (let h : ⊥ = cc in h)
 held-returns system facts listed race steps run true None at is never = absurd (let h : ⊥ = cc in h)
 held-returns system facts listed race steps run true (Some point) at is never =
     point-returns system facts listed race steps point run (at point refl) is never
 
-pub hold_point-is : (code : Module) (case : Case) (race : Race) (input : Input) (point : HoldPoint State) →
-    hold_point code case race input ≡ Some point →
-    let system = machine_of (setting_of code case input) in IsPoint system (begun system case.steps) race point
-unfolding hold_point moments_of
-hold_point-is code case race input point is =
+pub point_of-is : (code : Module) (case : Case) (race : Race) (input : Input) (point : HoldPoint State) →
+    point_of code case race input ≡ Some point →
+    let system = machine_of (setting_of code case input) in IsPoint system (first_course system case.steps) race point
+unfolding point_of moments_of
+point_of-is code case race input point is =
     let system = machine_of (setting_of code case input) in
-    let start = begun system case.steps in
+    let start = first_course system case.steps in
     let moments = primary_moments code case input in
     point-in system start race point moments (from_first race moments)
     (from_turn-head (Comes system start) race.t1 race.v1 moments
@@ -285,14 +285,14 @@ hold_point-is code case race input point is =
     (leads-itself system start))) is
 
 pub alternate-replays : AlternateReplays
-unfolding HeldOn
-alternate-replays code case race input run is never =
+unfolding hold_of
+alternate-replays code case race input schedule run is never =
     let setting = setting_of code case input in
     let system = machine_of setting in
     let facts = machine-is_system setting in
-    let whole = alternate-is_whole system facts case.turns race (HeldOn code case race input) in
+    let whole = alternate-is_whole system facts case.turns race (hold_of code case race input) in
     held-returns system facts case.turns race case.steps run
-    (Reaches code case race input) (hold_point code case race input) (hold_point-is code case race input)
+    (Reaches code case race input) (point_of code case race input) (point_of-is code case race input)
     (sym whole ∙ is) never
 
 pub primary_job-replays : PrimaryJobReplays

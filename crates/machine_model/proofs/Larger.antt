@@ -1,7 +1,7 @@
 -- A turn or a run that was not cut is the same under a larger budget, but for the steps that are left.
 use Rattle.std.proofs.Common.{◌≡◌, ◌≢◌, ℕ, zero, suc, ◌+◌, ◌-◌, ◌<◌, ◌≤◌, Bool, true, false, cond, leb, eqb, List, ◌++◌, [], Option, Some, None, refl, ap, ◌∙◌, arith}
 use Rattle.std.specs.Prelude.{slice_get}
-use Rattle.std.proofs.lemmas.Bool.{leb-false, eqb-false, lt-leb, ne_eqb}
+use Rattle.std.proofs.lemmas.Bool.{le-ltb}
 use Rattle.ir_types.specs.declared.instruction.Site.{Site}
 use Rattle.machine_model.specs.declared.run.Outcome.TheVariants as outcomes
 use Rattle.machine_model.specs.declared.run.Run.{Run}
@@ -12,7 +12,7 @@ use Rattle.machine_model.specs.declared.state.Thread.{Thread}
 use Rattle.machine_model.specs.Effect.{Effect, Footprint}
 use Rattle.machine_model.specs.Effect.Effect.{Done, Pauses, Exits, Traps, Blocks, NoRow}
 use Rattle.machine_model.specs.Operation.{footprint_of}
-use Rattle.machine_model.specs.Run.{Advance, Course, advanced, advanced_with, advanced_by, after_turn, begun, onward_or_told, run_from, run_of}
+use Rattle.machine_model.specs.Run.{Advance, Course, advanced, advanced_with, advanced_by, after_turn, first_course, onward_or_concluded, run_from, run_of}
 use Rattle.machine_model.specs.Run.Advance.{Onward, Over}
 use Rattle.machine_model.specs.Policy.{Choice, choose}
 use Rattle.machine_model.specs.Setting.{Setting}
@@ -20,10 +20,10 @@ use Rattle.machine_model.specs.System.{System}
 use Rattle.machine_model.specs.SystemLaws.{IsSystem, richer}
 use Rattle.machine_model.specs.Thread.{has_ended}
 use Rattle.machine_model.specs.Step.{Step, first_step, next_step}
-use Rattle.machine_model.specs.Step.Step.{Waits, Runs, Starts, Lacks}
-use Rattle.machine_model.specs.Turn.{Turned, Move, charged, paid, rest_of_turn, went_on, put_in, ran, ran_on, then_on, turn, turn_of}
+use Rattle.machine_model.specs.Step.Step.{Waits, Does, Starts, Lacks}
+use Rattle.machine_model.specs.Turn.{Turned, Move, afforded, charged, cost_of_effect, led_by, paid, rest_of_turn, rest_of, in_state, steps_within, steps_from, continued, turn, turn_of}
 use Rattle.machine_model.specs.Turn.Move.{Leads, Stops}
-use Rattle.machine_model.proofs.Cases.{by_test}
+use Rattle.machine_model.proofs.Payment.{each-afforded}
 
 abbrev pub richer_move : {S : Type 0} → ℕ → Move S → Move S
 richer_move more (Leads after left decided) = Leads after (left + more) decided
@@ -38,86 +38,69 @@ IsWhole (Stops turned) = turned.end ≢ ends.Spent
 abbrev pub Lasts : {S : Type 0} → ℕ → Move S → Move S → Type 0
 Lasts more move richer = IsWhole move → richer ≡ richer_move more move
 
-charged-lasts : {S : Type 0} (more : ℕ) (before : S) (left : ℕ) (decided : List ℕ) (site : Site) (effect : Effect S) →
-    Lasts more (charged before left decided site effect) (charged before (left + more) decided site effect)
-unfolding charged
-charged-lasts {S} more before left decided site (Done extra after) =
-    by_test (λ (move : Move S). Lasts more move (charged before (left + more) decided site (Done extra after)))
-    (leb left extra) _ _
-    (λ h whole. absurd (whole refl))
-    (λ h whole. let room : extra < left = leb-false left extra h in
-    rw (lt-leb (left + more) extra (omega arith)) (ap (λ rest. Leads after rest decided) (omega arith)))
-charged-lasts {S} more before left decided site (Pauses extra after) =
-    by_test (λ (move : Move S). Lasts more move (charged before (left + more) decided site (Pauses extra after)))
-    (leb left extra) _ _
-    (λ h whole. absurd (whole refl))
-    (λ h whole. let room : extra < left = leb-false left extra h in
-    rw (lt-leb (left + more) extra (omega arith))
-    (ap (λ rest. Stops (record { after = after; left = rest; decided = decided; end = ends.Going })) (omega arith)))
-charged-lasts {S} more before left decided site (Exits extra status after) =
-    by_test (λ (move : Move S). Lasts more move (charged before (left + more) decided site (Exits extra status after)))
-    (leb left extra) _ _
-    (λ h whole. absurd (whole refl))
-    (λ h whole. let room : extra < left = leb-false left extra h in
-    rw (lt-leb (left + more) extra (omega arith))
-    (ap (λ rest. Stops (record { after = after; left = rest; decided = decided; end = ends.Exit status })) (omega arith)))
-charged-lasts {S} more before left decided site (Traps trap) =
-    by_test (λ (move : Move S). Lasts more move (charged before (left + more) decided site (Traps trap)))
-    (eqb left 0) _ _
-    (λ h whole. absurd (whole refl))
-    (λ h whole. let some : left ≢ 0 = eqb-false left 0 h in
-    rw (ne_eqb (left + more) 0 (omega arith))
-    (ap (λ rest. Stops (record { after = before; left = rest; decided = decided; end = ends.Trap trap site })) (omega arith)))
-charged-lasts {S} more before left decided site Blocks = λ whole. absurd (whole refl)
-charged-lasts {S} more before left decided site NoRow = λ whole. absurd (whole refl)
+led-lasts : {S : Type 0} (more : ℕ) (before : S) (rest : ℕ) (decided : List ℕ) (site : Site) (effect : Effect S) →
+    Lasts more (led_by before rest decided site effect) (led_by before (rest + more) decided site effect)
+led-lasts more before rest decided site (Done extra after) = λ whole. refl
+led-lasts more before rest decided site (Pauses extra after) = λ whole. refl
+led-lasts more before rest decided site (Exits extra status after) = λ whole. refl
+led-lasts more before rest decided site (Traps trap) = λ whole. refl
+led-lasts more before rest decided site Blocks = λ whole. absurd (whole refl)
+led-lasts more before rest decided site NoRow = λ whole. absurd (whole refl)
+
+-- where so much was left, more is
+afforded-lasts : {S : Type 0} (more : ℕ) (before : S) (left : ℕ) (decided : List ℕ) (go : ℕ → Move S) (cost : Option ℕ) →
+    ((rest : ℕ) → Lasts more (go rest) (go (rest + more))) →
+    Lasts more (afforded before left decided go cost) (afforded before (left + more) decided go cost)
+afforded-lasts {S} more before left decided go cost lasts =
+    each-afforded (λ (move : Move S). Lasts more move (afforded before (left + more) decided go cost)) before left decided go cost
+    (λ whole. absurd (whole refl))
+    (λ price is room whole.
+    rw (is, le-ltb (left + more) price (omega arith)) (ap go (let rests : left + more - price ≡ left - price + more = omega arith in rests) ∙ lasts (left - price) whole))
 
 paid-lasts : {S : Type 0} (more : ℕ) (before : S) (left : ℕ) (decided : List ℕ) (step : Step S) →
     Lasts more (paid before left decided step) (paid before (left + more) decided step)
-unfolding paid
+unfolding paid charged
 paid-lasts more before left decided (Waits after addresses) = λ whole. refl
-paid-lasts more before left decided (Runs numbers site effect) =
-    charged-lasts more before left (decided ++ numbers) site effect
-paid-lasts {S} more before left decided Starts =
-    by_test (λ (move : Move S). Lasts more move (paid before (left + more) decided Starts))
-    (eqb left 0) _ _
-    (λ h whole. absurd (whole refl))
-    (λ h whole. let some : left ≢ 0 = eqb-false left 0 h in
-    rw (ne_eqb (left + more) 0 (omega arith)) (ap (λ rest. Leads before rest decided) (omega arith)))
+paid-lasts more before left decided (Does numbers site effect) =
+    afforded-lasts more before left (decided ++ numbers) (λ rest. led_by before rest (decided ++ numbers) site effect)
+    (cost_of_effect effect) (λ rest. led-lasts more before rest (decided ++ numbers) site effect)
+paid-lasts more before left decided Starts =
+    afforded-lasts more before left decided (λ rest. Leads before rest decided) (Some 1) (λ rest whole. refl)
 paid-lasts more before left decided Lacks = λ whole. absurd (whole refl)
 
 -- what a move leads to lasts where what it goes on with does
-then_on-lasts : {S : Type 0} (more : ℕ) (go other : S → ℕ → List ℕ → Turned S) (move richer_one : Move S) →
+continued-lasts : {S : Type 0} (more : ℕ) (go other : S → ℕ → List ℕ → Turned S) (move richer_one : Move S) →
     Lasts more move richer_one →
     ((after : S) (left : ℕ) (decided : List ℕ) → (go after left decided).end ≢ ends.Spent →
     other after (left + more) decided ≡ richer more (go after left decided)) →
-    (then_on go move).end ≢ ends.Spent → then_on other richer_one ≡ richer more (then_on go move)
-then_on-lasts more go other (Leads after left decided) richer_one lasts on whole =
+    (continued go move).end ≢ ends.Spent → continued other richer_one ≡ richer more (continued go move)
+continued-lasts more go other (Leads after left decided) richer_one lasts on whole =
     rw (lasts tt) (on after left decided whole)
-then_on-lasts more go other (Stops turned) richer_one lasts on whole = rw (lasts whole) refl
+continued-lasts more go other (Stops turned) richer_one lasts on whole = rw (lasts whole) refl
 
-ran-lasts : (setting : Setting) (number more : ℕ) (most most' : ℕ) (footprint : Footprint) (left : ℕ) (decided : List ℕ) →
-    most ≤ most' → (ran most setting number footprint left decided).end ≢ ends.Spent →
-    ran most' setting number footprint (left + more) decided ≡ richer more (ran most setting number footprint left decided)
-unfolding ran
-ran-lasts setting number more zero most' footprint left decided h whole = absurd (whole refl)
-ran-lasts setting number more (suc most) zero footprint left decided h whole = absurd (omega arith)
-ran-lasts setting number more (suc most) (suc most') footprint left decided h whole =
-    then_on-lasts more (ran most setting number) (ran most' setting number)
+steps_within-lasts : (setting : Setting) (number more : ℕ) (most most' : ℕ) (footprint : Footprint) (left : ℕ) (decided : List ℕ) →
+    most ≤ most' → (steps_within most setting number footprint left decided).end ≢ ends.Spent →
+    steps_within most' setting number footprint (left + more) decided ≡ richer more (steps_within most setting number footprint left decided)
+unfolding steps_within
+steps_within-lasts setting number more zero most' footprint left decided h whole = absurd (whole refl)
+steps_within-lasts setting number more (suc most) zero footprint left decided h whole = absurd (omega arith)
+steps_within-lasts setting number more (suc most) (suc most') footprint left decided h whole =
+    continued-lasts more (steps_within most setting number) (steps_within most' setting number)
     (paid footprint left decided (next_step setting number footprint))
     (paid footprint (left + more) decided (next_step setting number footprint))
     (paid-lasts more footprint left decided (next_step setting number footprint))
-    (λ after rest others. ran-lasts setting number more most most' after rest others (omega arith))
+    (λ after rest others. steps_within-lasts setting number more most most' after rest others (omega arith))
     whole
 
-went_on-lasts : (setting : Setting) (number more : ℕ) (state : State) (left : ℕ) (decided : List ℕ) (thread : Option Thread) →
-    (went_on setting number state left decided thread).end ≢ ends.Spent →
-    went_on setting number state (left + more) decided thread ≡ richer more (went_on setting number state left decided thread)
-went_on-lasts setting number more state left decided None = λ whole. absurd (whole refl)
-went_on-lasts setting number more state left decided (Some thread) =
+rest_of-lasts : (setting : Setting) (number more : ℕ) (state : State) (left : ℕ) (decided : List ℕ) (thread : Option Thread) →
+    (rest_of setting number state left decided thread).end ≢ ends.Spent →
+    rest_of setting number state (left + more) decided thread ≡ richer more (rest_of setting number state left decided thread)
+rest_of-lasts setting number more state left decided None = λ whole. absurd (whole refl)
+rest_of-lasts setting number more state left decided (Some thread) =
     go (has_ended thread)
   where
     on : ℕ → Turned State
-    on rest = put_in state number (ran_on setting number (footprint_of state thread) rest decided)
+    on rest = in_state state number (steps_from setting number (footprint_of state thread) rest decided)
 
     over : ℕ → Turned State
     over rest = record { after = state; left = rest; decided = decided; end = ends.Going }
@@ -125,22 +108,22 @@ went_on-lasts setting number more state left decided (Some thread) =
     go : (has : Bool) → (cond has (over left) (on left)).end ≢ ends.Spent →
         cond has (over (left + more)) (on (left + more)) ≡ richer more (cond has (over left) (on left))
     go true whole = refl
-    go false whole = ap (put_in state number)
-        (ran-lasts setting number more (left + 1) (left + more + 1) (footprint_of state thread) left decided (omega arith) whole)
+    go false whole = ap (in_state state number)
+        (steps_within-lasts setting number more (left + 1) (left + more + 1) (footprint_of state thread) left decided (omega arith) whole)
 
 rest_of_turn-lasts : (setting : Setting) (number more : ℕ) (state : State) (left : ℕ) (decided : List ℕ) →
     (rest_of_turn setting number state left decided).end ≢ ends.Spent →
     rest_of_turn setting number state (left + more) decided ≡ richer more (rest_of_turn setting number state left decided)
 unfolding rest_of_turn
 rest_of_turn-lasts setting number more state left decided =
-    went_on-lasts setting number more state left decided (slice_get state.threads number)
+    rest_of-lasts setting number more state left decided (slice_get state.threads number)
 
 turn_of-lasts : (setting : Setting) (state : State) (number more left : ℕ) (thread : Option Thread) →
     (turn_of setting state number left thread).end ≢ ends.Spent →
     turn_of setting state number (left + more) thread ≡ richer more (turn_of setting state number left thread)
 turn_of-lasts setting state number more left None whole = absurd (whole refl)
 turn_of-lasts setting state number more left (Some thread) whole =
-    then_on-lasts more (rest_of_turn setting number) (rest_of_turn setting number)
+    continued-lasts more (rest_of_turn setting number) (rest_of_turn setting number)
     (paid state left [] (first_step setting state number thread thread.pending))
     (paid state (left + more) [] (first_step setting state number thread thread.pending))
     (paid-lasts more state left [] (first_step setting state number thread thread.pending))
@@ -206,14 +189,14 @@ advanced-lasts system facts listed more course =
 
 -- a run that is not spent has no turn that was cut
 onward-whole : {S : Type 0} (system : System S) (go : Course S → Run) (advance : Advance S) →
-    (onward_or_told system go advance).outcome ≢ outcomes.Spent → AdvanceIsWhole advance
+    (onward_or_concluded system go advance).outcome ≢ outcomes.Spent → AdvanceIsWhole advance
 onward-whole system go (Onward next) whole = tt
 onward-whole system go (Over last outcome) whole = whole
 
 onward-lasts : {S : Type 0} (system : System S) (more : ℕ) (go other : Course S → Run) (advance : Advance S) →
     ((next : Course S) → (go next).outcome ≢ outcomes.Spent → other (richer_course more next) ≡ go next) →
-    (onward_or_told system go advance).outcome ≢ outcomes.Spent →
-    onward_or_told system other (richer_advance more advance) ≡ onward_or_told system go advance
+    (onward_or_concluded system go advance).outcome ≢ outcomes.Spent →
+    onward_or_concluded system other (richer_advance more advance) ≡ onward_or_concluded system go advance
 onward-lasts system more go other (Onward next) on whole = on next whole
 onward-lasts system more go other (Over last outcome) on whole = refl
 
@@ -238,5 +221,5 @@ pub run_of-lasts : {S : Type 0} (system : System S) (facts : IsSystem system) (l
 unfolding run_of
 run_of-lasts system facts listed steps more h whole =
     let sum : more ≡ steps + (more - steps) = omega arith in
-    let lasts = run_from-lasts system facts listed (more - steps) (steps + 1) (more + 1) (begun system steps) (omega arith) whole in
-    ap (λ budget. run_from (more + 1) system listed (begun system budget)) sum ∙ lasts
+    let lasts = run_from-lasts system facts listed (more - steps) (steps + 1) (more + 1) (first_course system steps) (omega arith) whole in
+    ap (λ budget. run_from (more + 1) system listed (first_course system budget)) sum ∙ lasts

@@ -7,7 +7,7 @@ use Rattle.machine_model.specs.declared.run.Run.{Run}
 use Rattle.machine_model.specs.declared.run.TurnEnd.{TurnEnd}
 use Rattle.machine_model.specs.declared.run.TurnEnd.TheVariants as ends
 use Rattle.machine_model.specs.Policy.{Choice, Policy, choose}
-use Rattle.machine_model.specs.Run.{Advance, Course, advanced, advanced_by, advanced_with, after_turn, onward_or_told, run_from, told}
+use Rattle.machine_model.specs.Run.{Advance, Course, advanced, advanced_by, advanced_with, after_turn, onward_or_concluded, run_from, concluded}
 use Rattle.machine_model.specs.Run.Advance.{Onward, Over}
 use Rattle.machine_model.specs.System.{System}
 use Rattle.machine_model.specs.SystemLaws.{IsSystem}
@@ -66,7 +66,7 @@ takes-again again system course choice policy among listed at = go (choose again
 -- what a turn leads to gives the run
 abbrev pub AdvanceReturns : {S : Type 0} → System S → List ℕ → Run → Advance S → Type 0
 AdvanceReturns system again run (Onward next) = Returns system again next run
-AdvanceReturns system again run (Over last outcome) = told system last outcome ≡ run
+AdvanceReturns system again run (Over last outcome) = concluded system last outcome ≡ run
 
 pub returns-turn : {S : Type 0} (system : System S) (facts : IsSystem system) (again : List ℕ) (run : Run)
     (course : Course S) (choice : Choice) →
@@ -86,7 +86,7 @@ returns-turn {S} system facts again run course choice among listed leads (suc mo
 
     go : (end : TurnEnd) → end_of system course choice ≡ end →
         AdvanceReturns system again run (advanced_by choice.thread after end) →
-        onward_or_told system (run_from most system again) (advanced_by choice.thread (chosen_by taken.next after) end) ≡ run
+        onward_or_concluded system (run_from most system again) (advanced_by choice.thread (chosen_by taken.next after) end) ≡ run
     go ends.Going is back =
         let balances = facts.costs course.state choice.thread course.left in
         let pays = rw is at balances.pays in
@@ -97,7 +97,7 @@ returns-turn {S} system facts again run course choice among listed leads (suc mo
 
 -- where no thread is enabled, none is chosen again
 pub returns-none : {S : Type 0} (system : System S) (again : List ℕ) (course : Course S) →
-    ((thread : ℕ) → ¬ IsEnabled system course thread) → Returns system again course (told system course outcomes.Deadlock)
+    ((thread : ℕ) → ¬ IsEnabled system course thread) → Returns system again course (concluded system course outcomes.Deadlock)
 unfolding run_from advanced
 returns-none system again course none zero policy less at = absurd (omega arith)
 returns-none system again course none (suc most) policy less at = go (choose again policy threads) refl
@@ -106,8 +106,8 @@ returns-none system again course none (suc most) policy less at = go (choose aga
     threads = system.enabled course.state
 
     go : (found : Option Choice) → choose again policy threads ≡ found →
-        onward_or_told system (run_from most system again) (advanced_with system (chosen_by policy course) found)
-        ≡ told system course outcomes.Deadlock
+        onward_or_concluded system (run_from most system again) (advanced_with system (chosen_by policy course) found)
+        ≡ concluded system course outcomes.Deadlock
     go None found = refl
     go (Some choice) found = absurd (none choice.thread (choice-enabled again policy threads choice found).0)
 

@@ -3,6 +3,7 @@ pub mod Alternates
 pub mod Apart
 pub mod Budget
 pub mod Bytes
+pub mod CallShapes
 pub mod CallStates
 pub mod Cases
 pub mod Changes
@@ -15,7 +16,9 @@ pub mod JobReplays
 pub mod Larger
 pub mod Leading
 pub mod Machines
+pub mod MemoryShapes
 pub mod Moments
+pub mod Numbers
 pub mod OtherBytes
 pub mod OtherOrder
 pub mod Payment
@@ -28,6 +31,7 @@ pub mod Released
 pub mod Replays
 pub mod RoundRobin
 pub mod RunReturns
+pub mod Shapes
 pub mod StateEquality
 pub mod Steps
 pub mod Stored

@@ -7,7 +7,7 @@ use Rattle.machine_model.specs.declared.run.TurnEnd.TheVariants as ends
 use Rattle.machine_model.specs.JobLaws.{MomentsAreTurns}
 use Rattle.machine_model.specs.Moment.{Moment, moments_from, moments_of, moments_with, onward_or_none}
 use Rattle.machine_model.specs.Policy.{Choice, choose}
-use Rattle.machine_model.specs.Run.{Course, advanced, advanced_by, advanced_with, after_turn, begun, onward_or_told, run_from, run_of}
+use Rattle.machine_model.specs.Run.{Course, advanced, advanced_by, advanced_with, after_turn, first_course, onward_or_concluded, run_from, run_of}
 use Rattle.machine_model.specs.System.{System}
 
 abbrev threads_of : {S : Type 0} → List (Moment S) → List ℕ
@@ -20,7 +20,7 @@ Continues {S} go moments = (course : Course S) → (go course).turns ≡ course.
 advanced_by-continues : {S : Type 0} (system : System S) (go : Course S → Run)
     (moments : Course S → List (Moment S)) (thread : ℕ) (next : Course S)
     (end : TurnEnd) → Continues go moments →
-    (onward_or_told system go (advanced_by thread next end)).turns
+    (onward_or_concluded system go (advanced_by thread next end)).turns
     ≡ next.turns ++ threads_of (onward_or_none moments (advanced_by thread next end))
 advanced_by-continues system go moments thread next ends.Going continues = continues next
 advanced_by-continues system go moments thread next (ends.Exit status) continues = sym (append-nil next.turns)
@@ -30,7 +30,7 @@ advanced_by-continues system go moments thread next ends.Spent continues = sym (
 advanced_with-continues : {S : Type 0} (system : System S) (go : Course S → Run)
     (moments : Course S → List (Moment S)) (course : Course S)
     (choice : Option Choice) → Continues go moments →
-    (onward_or_told system go (advanced_with system course choice)).turns
+    (onward_or_concluded system go (advanced_with system course choice)).turns
     ≡ course.turns ++ threads_of (moments_with moments system course choice)
 advanced_with-continues system go moments course None continues = sym (append-nil course.turns)
 advanced_with-continues system go moments course (Some choice) continues =
@@ -50,4 +50,4 @@ run_from-continues (suc most) system listed = λ course.
 
 pub moments-are_turns : {S : Type 0} (system : System S) → MomentsAreTurns system
 unfolding run_of moments_of
-moments-are_turns system listed steps = sym (run_from-continues (steps + 1) system listed (begun system steps))
+moments-are_turns system listed steps = sym (run_from-continues (steps + 1) system listed (first_course system steps))

@@ -9,7 +9,7 @@ use Rattle.machine_model.specs.Run.{Course}
 use Rattle.machine_model.specs.System.{System, machine_of}
 use Rattle.machine_model.specs.SystemLaws.{IsSystem, MayDo}
 use Rattle.machine_model.proofs.HoldLaws.{ends-have_causes}
-use Rattle.machine_model.proofs.JobReplays.{hold-resumes, hold_point-is}
+use Rattle.machine_model.proofs.JobReplays.{hold-resumes, point_of-is}
 use Rattle.machine_model.proofs.Machines.{machine-is_system}
 use Rattle.machine_model.proofs.Policies.{choice-released, choice-unless_none}
 
@@ -53,4 +53,4 @@ pub order-is_turned_round : OrderIsTurnedRound
 order-is_turned_round code case race input point snapshots after is =
     let setting = setting_of code case input in
     hold-turns_round (machine_of setting) (machine-is_system setting) case.turns race point snapshots after
-    (hold_point-is code case race input point is).may_do
+    (point_of-is code case race input point is).may_do

@@ -18,7 +18,7 @@ use Rattle.machine_model.specs.Effect.{Footprint}
 use Rattle.machine_model.specs.Operation.{put_back}
 use Rattle.machine_model.specs.PendingLaws.{ArePending, IsNextAt, IsNextIn, IsPending, MomentsArePending, StartedArePending, TurnKeepsPending}
 use Rattle.machine_model.specs.Setting.{Setting}
-use Rattle.machine_model.specs.Step.{waiting}
+use Rattle.machine_model.specs.Step.{made_pending}
 use Rattle.machine_model.specs.Thread.{has_ended, made, top}
 use Rattle.machine_model.specs.System.{machine_of}
 use Rattle.machine_model.specs.Turn.{turn}
@@ -112,7 +112,7 @@ module _ (setting : Setting) (number : ℕ) where
 
   waits-pend : (state : State) (footprint : Footprint) (frame : Frame) (placed : Placed) →
       top footprint.thread ≡ Some frame → next_in setting.code frame ≡ Some placed → Within (put_back state number footprint) →
-      Between (put_back state number (waiting footprint placed.site (addresses_of frame placed.inst)))
+      Between (put_back state number (made_pending footprint placed.site (addresses_of frame placed.inst)))
   waits-pend state footprint frame placed is next pend =
       all-pend state.threads _
       (λ live. subst (IsNextIn setting.code placed.site (addresses_of frame placed.inst)) (sym is)

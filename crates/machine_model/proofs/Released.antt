@@ -14,9 +14,9 @@ use Rattle.machine_model.specs.declared.state.Operation.{Operation}
 use Rattle.machine_model.specs.declared.state.Operation.TheVariants.{Start, At, CondReturn, Nothing}
 use Rattle.machine_model.specs.declared.state.State.{State}
 use Rattle.machine_model.specs.declared.state.Thread.{Thread}
-use Rattle.machine_model.specs.Access.{access_of, pending, pending_in, pending_inst, pending_of, pending_operation, pending_placed}
+use Rattle.machine_model.specs.Access.{access_of, pending_of_state, pending_in, pending_inst, pending_of, pending_operation, pending_placed}
 use Rattle.machine_model.specs.Code.{Placed, next_in}
-use Rattle.machine_model.specs.Enabled.{enabled, is_enabled, may_run, waits, waits_at, waits_for, waits_in}
+use Rattle.machine_model.specs.Enabled.{enabled, is_enabled, may_run, has_to_wait, waits_at, waits_for, waits_in}
 use Rattle.machine_model.specs.Moment.{Moment, access_at}
 use Rattle.machine_model.specs.Setting.{Setting}
 use Rattle.machine_model.specs.Shared.{Shared, shared_of}
@@ -54,8 +54,8 @@ frame-runs setting shared number site decided (Some frame) access is =
     placed-runs shared number site decided (next_in setting.code frame) access is
 
 access-runs : (setting : Setting) (shared : Shared) (number : ℕ) (thread : Thread) (operation : Operation) (access : Access) →
-    access_of (pending_operation setting.code thread operation) ≡ Some access → waits setting shared number thread operation ≡ false
-unfolding waits pending_operation
+    access_of (pending_operation setting.code thread operation) ≡ Some access → has_to_wait setting shared number thread operation ≡ false
+unfolding has_to_wait pending_operation
 access-runs setting shared number thread Start access is = refl
 access-runs setting shared number thread (At site decided) access is = frame-runs setting shared number site decided (top thread) access is
 access-runs setting shared number thread (CondReturn site decided) access is = refl
@@ -83,9 +83,9 @@ ready-kept setting number access before after keeps ready =
     }
 
 -- so it still waits to do that
-ready-waits : (setting : Setting) (state : State) (number : ℕ) (access : Access) →
-    Ready setting state.threads number access → access_of (pending setting.code state number) ≡ Some access
-ready-waits setting state number access ready = rw ready.is ready.accesses
+ready-has_to_wait : (setting : Setting) (state : State) (number : ℕ) (access : Access) →
+    Ready setting state.threads number access → access_of (pending_of_state setting.code state number) ≡ Some access
+ready-has_to_wait setting state number access ready = rw ready.is ready.accesses
 
 -- what passes is kept
 Contains-filtered : (test : ℕ → Bool) (threads : List ℕ) (thread : ℕ) → Contains threads thread → test thread ≡ true →
@@ -113,9 +113,9 @@ ready-enabled setting state number access ready =
     Contains-filtered (is_enabled setting state) (range_with_len 0 count) number
     (number, omega (arith, within, long), get_or-range_with_len 0 count number number within ∙ zero-add number) passes
 
-not-ended : (over waits : Bool) → (not over && not waits) ≡ true → over ≡ false
-not-ended true waits is = absurd (let h : ⊥ = cc in h)
-not-ended false waits is = refl
+not-ended : (over has_to_wait : Bool) → (not over && not has_to_wait) ≡ true → over ≡ false
+not-ended true has_to_wait is = absurd (let h : ⊥ = cc in h)
+not-ended false has_to_wait is = refl
 
 -- a thread that may run, with an access pending, is ready
 access-ready : (setting : Setting) (state : State) (number : ℕ) (access : Access) (thread : Option Thread) →
@@ -125,7 +125,7 @@ access-ready setting state number access None is runs accesses = absurd (let h :
 access-ready setting state number access (Some thread) is runs accesses = record {
   thread = thread;
   is = is;
-  lasts = not-ended (has_ended thread) (waits setting (shared_of state) number thread thread.pending) runs;
+  lasts = not-ended (has_ended thread) (has_to_wait setting (shared_of state) number thread thread.pending) runs;
   accesses = accesses;
 }
 
@@ -146,7 +146,7 @@ machine-keeps setting state number other left access apart may =
     let ready = access-ready setting state number access (slice_get state.threads number) refl
     (may-run setting state number may.may_run) may.waits in
     let kept = ready-kept setting number access state.threads after.threads (turn-keeps number other apart setting state left) ready in
-    record { may_run = ready-enabled setting after number access kept; waits = ready-waits setting after number access kept }
+    record { may_run = ready-enabled setting after number access kept; waits = ready-has_to_wait setting after number access kept }
 
 accesses-unless : (spent : Bool) (found : Option Access) (access : Access) → cond spent None found ≡ Some access →
     found ≡ Some access

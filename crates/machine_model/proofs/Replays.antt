@@ -8,7 +8,7 @@ use Rattle.machine_model.specs.declared.run.TurnEnd.TheVariants as ends
 use Rattle.machine_model.specs.declared.mode.Mode.TheVariants.{Before}
 use Rattle.machine_model.specs.Policy.{Choice, Policy, choose, from_front}
 use Rattle.machine_model.specs.PolicyLaws.{ChoiceIsEnabled, ChoiceIsLast, ChoosesUnlessNone, ListedIsChosen, MayChoose, mode_after}
-use Rattle.machine_model.specs.Run.{Course, advanced, advanced_by, advanced_with, after_turn, begun, onward_or_told, run_from, run_of}
+use Rattle.machine_model.specs.Run.{Course, advanced, advanced_by, advanced_with, after_turn, first_course, onward_or_concluded, run_from, run_of}
 use Rattle.machine_model.specs.System.{System}
 
 -- a list goes on from a front
@@ -34,7 +34,7 @@ next-in front thread whole rest is = rw (is, append_assoc) (slice_get-after fron
 
 advanced_by-begins : {S : Type 0} (system : System S) (go : Course S → Run) (thread : ℕ) (next : Course S)
     (end : TurnEnd) →
-    Begins next.turns (go next).turns → Begins next.turns (onward_or_told system go (advanced_by thread next end)).turns
+    Begins next.turns (go next).turns → Begins next.turns (onward_or_concluded system go (advanced_by thread next end)).turns
 advanced_by-begins system go thread next ends.Going begins = begins
 advanced_by-begins system go thread next (ends.Exit status) begins = Begins-itself next.turns
 advanced_by-begins system go thread next (ends.Trap trap site) begins = Begins-itself next.turns
@@ -47,7 +47,7 @@ Continues {S} go = (next : Course S) → Begins next.turns (go next).turns
 -- and with the one that is chosen
 pub chosen-begins : {S : Type 0} (go : Course S → Run) (system : System S) (course : Course S) (choice : Choice) →
     Continues go →
-    Begins (course.turns ++ choice.thread ∷ []) (onward_or_told system go (advanced_with system course (Some choice))).turns
+    Begins (course.turns ++ choice.thread ∷ []) (onward_or_concluded system go (advanced_with system course (Some choice))).turns
 chosen-begins go system course choice continues =
     let turned = system.turn course.state choice.thread course.left in
     let next = after_turn course choice turned in
@@ -55,10 +55,10 @@ chosen-begins go system course choice continues =
 
 advanced_with-begins : {S : Type 0} (go : Course S → Run) (system : System S) (course : Course S)
     (choice : Option Choice) →
-    Continues go → Begins course.turns (onward_or_told system go (advanced_with system course choice)).turns
+    Continues go → Begins course.turns (onward_or_concluded system go (advanced_with system course choice)).turns
 advanced_with-begins go system course None continues = Begins-itself course.turns
 advanced_with-begins go system course (Some choice) continues =
-    Begins-less course.turns choice.thread (onward_or_told system go (advanced_with system course (Some choice))).turns
+    Begins-less course.turns choice.thread (onward_or_concluded system go (advanced_with system course (Some choice))).turns
     (chosen-begins go system course choice continues)
 
 pub run_from-begins : {S : Type 0} (most : ℕ) (system : System S) (listed : List ℕ) (course : Course S) →
@@ -96,8 +96,8 @@ Agree {S} again go other = (next : Course S) (policy : Policy) → Follows next.
 advanced_by-agree : {S : Type 0} (system : System S) (again : List ℕ) (go other : Course S → Run) (thread : ℕ)
     (next : Course S) (policy : Policy) (end : TurnEnd) →
     Agree again go other → Follows next.policy → IsAt policy (length next.turns) →
-    again ≡ (onward_or_told system go (advanced_by thread next end)).turns →
-    onward_or_told system other (advanced_by thread (chosen_by policy next) end) ≡ onward_or_told system go (advanced_by thread next end)
+    again ≡ (onward_or_concluded system go (advanced_by thread next end)).turns →
+    onward_or_concluded system other (advanced_by thread (chosen_by policy next) end) ≡ onward_or_concluded system go (advanced_by thread next end)
 advanced_by-agree system again go other thread next policy ends.Going agree follows at same = agree next policy follows at same
 advanced_by-agree system again go other thread next policy (ends.Exit status) agree follows at same = refl
 advanced_by-agree system again go other thread next policy (ends.Trap trap site) agree follows at same = refl
@@ -129,9 +129,9 @@ advanced_with-agree : {S : Type 0} → Chooser → (again : List ℕ) (go other 
     choose listed course.policy (system.enabled course.state) ≡ one →
     choose again policy (system.enabled course.state) ≡ two →
     Agree again go other → Continues go → Follows course.policy → IsAt policy (length course.turns) →
-    again ≡ (onward_or_told system go (advanced_with system course one)).turns →
-    onward_or_told system other (advanced_with system (chosen_by policy course) two)
-    ≡ onward_or_told system go (advanced_with system course one)
+    again ≡ (onward_or_concluded system go (advanced_with system course one)).turns →
+    onward_or_concluded system other (advanced_with system (chosen_by policy course) two)
+    ≡ onward_or_concluded system go (advanced_with system course one)
 advanced_with-agree laws again go other system listed course policy None None first second agree continues follows at same = refl
 advanced_with-agree laws again go other system listed course policy None (Some choice) first second agree continues follows at same =
     absurd (both-choose laws again listed policy course.policy (system.enabled course.state) choice second follows first)
@@ -164,5 +164,5 @@ pub run_of-turns : {S : Type 0} → Chooser → (system : System S) (listed : Li
     run_of system (run_of system listed steps).turns steps ≡ run_of system listed steps
 unfolding run_of
 run_of-turns laws system listed steps =
-    run_from-agree laws (run_from (steps + 1) system listed (begun system steps)).turns (steps + 1) system listed
-    (begun system steps) from_front refl (refl, refl) refl
+    run_from-agree laws (run_from (steps + 1) system listed (first_course system steps)).turns (steps + 1) system listed
+    (first_course system steps) from_front refl (refl, refl) refl

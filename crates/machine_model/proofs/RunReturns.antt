@@ -7,7 +7,7 @@ use Rattle.machine_model.specs.declared.run.TurnEnd.{TurnEnd}
 use Rattle.machine_model.specs.declared.run.TurnEnd.TheVariants as ends
 use Rattle.machine_model.specs.Policy.{Choice, choose}
 use Rattle.machine_model.specs.PolicyLaws.{MayChoose, mode_after}
-use Rattle.machine_model.specs.Run.{Course, advanced, advanced_by, advanced_with, onward_or_told, run_from}
+use Rattle.machine_model.specs.Run.{Course, advanced, advanced_by, advanced_with, onward_or_concluded, run_from}
 use Rattle.machine_model.specs.System.{System}
 use Rattle.machine_model.specs.SystemLaws.{IsSystem}
 use Rattle.machine_model.proofs.Leading.{AdvanceReturns, IsEnabled, Returns, end_of, listed-next, next_course, returns-none, returns-turn}
@@ -64,8 +64,8 @@ run-returns {S} (suc most) system facts listed again course less free finds same
 
     by_end : Rest → (choice : Choice) → choose listed course.policy threads ≡ Some choice → (end : TurnEnd) →
         end_of system course choice ≡ end →
-        again ≡ (onward_or_told system on (advanced_by choice.thread (next_course system course choice) end)).turns →
-        AdvanceReturns system again (onward_or_told system on (advanced_by choice.thread (next_course system course choice) end))
+        again ≡ (onward_or_concluded system on (advanced_by choice.thread (next_course system course choice) end)).turns →
+        AdvanceReturns system again (onward_or_concluded system on (advanced_by choice.thread (next_course system course choice) end))
         (advanced_by choice.thread (next_course system course choice) end)
     by_end rest choice found ends.Going is same =
         let balances = facts.costs course.state choice.thread course.left in
@@ -79,12 +79,12 @@ run-returns {S} (suc most) system facts listed again course less free finds same
     by_end rest choice found ends.Spent is same = refl
 
     go : Rest → (found : Option Choice) → choose listed course.policy threads ≡ found →
-        again ≡ (onward_or_told system on (advanced_with system course found)).turns →
-        Returns system again course (onward_or_told system on (advanced_with system course found))
+        again ≡ (onward_or_concluded system on (advanced_with system course found)).turns →
+        Returns system again course (onward_or_concluded system on (advanced_with system course found))
     go rest None found same = returns-none system again course (finds found)
     go rest (Some choice) found same =
         let begins = chosen-begins on system course choice (run_from-begins most system listed) in
-        returns-turn system facts again (onward_or_told system on (advanced_with system course (Some choice))) course choice
+        returns-turn system facts again (onward_or_concluded system on (advanced_with system course (Some choice))) course choice
         (choice-enabled listed course.policy threads choice found).0
         (listed-next course.turns choice.thread again (rw same begins))
         (by_end rest choice found (end_of system course choice) refl same)

@@ -11,14 +11,14 @@ use Rattle.machine_model.specs.Code.{Placed, next_in}
 use Rattle.machine_model.specs.Operation.{visible_effect}
 use Rattle.machine_model.specs.Setting.{Setting}
 use Rattle.machine_model.specs.Step.{Step, first_step, first_step_at, first_step_in}
-use Rattle.machine_model.specs.Step.Step.{Runs, Starts, Lacks}
+use Rattle.machine_model.specs.Step.Step.{Does, Starts, Lacks}
 use Rattle.machine_model.specs.Thread.{top}
 
 -- it starts its thread, runs a visible instruction, or there is none
 pub each-first_step : (P : Step State → Type 0) (setting : Setting) (state : State) (number : ℕ) (thread : Thread)
     (operation : Operation) → P Starts → P Lacks →
     ((numbers decided : List ℕ) (site : Site) (frame : Frame) (inst : Inst) →
-    P (Runs numbers site (visible_effect setting state number thread frame decided inst))) →
+    P (Does numbers site (visible_effect setting state number thread frame decided inst))) →
     P (first_step setting state number thread operation)
 unfolding first_step
 each-first_step P setting state number thread Start starts lacks runs = starts

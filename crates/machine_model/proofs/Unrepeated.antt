@@ -3,8 +3,8 @@ use Rattle.std.proofs.Common.{◌≡◌, ℕ, zero, suc, ◌+◌, Bool, true, fa
 use Rattle.machine_model.specs.declared.run.Outcome.TheVariants as outcomes
 use Rattle.machine_model.specs.declared.run.Run.{Run}
 use Rattle.machine_model.specs.JobLaws.{IsRepeat, UnrepeatedIsRun}
-use Rattle.machine_model.specs.Repeat.{Snapshot, earlier_turn, repeats, snapshot}
-use Rattle.machine_model.specs.Run.{Advance, Course, advanced, begun, onward_or_told, run_from, run_of, told}
+use Rattle.machine_model.specs.Repeat.{Snapshot, earlier_turn, repeats, snapshot_of}
+use Rattle.machine_model.specs.Run.{Advance, Course, advanced, first_course, onward_or_concluded, run_from, run_of, concluded}
 use Rattle.machine_model.specs.Run.Advance.{Onward, Over}
 use Rattle.machine_model.specs.System.{System}
 use Rattle.machine_model.specs.TestedRun.{tested_after, tested_from, tested_run}
@@ -18,19 +18,19 @@ tested_after-agrees : {S : Type 0} (system : System S) (tested : List (Snapshot 
     (go : Course S → Run) (past : List (Snapshot S))
     (advance : Advance S) → Agree tested go →
     ¬ IsRepeat (tested_after system tested past advance).outcome →
-    tested_after system tested past advance ≡ onward_or_told system go advance
+    tested_after system tested past advance ≡ onward_or_concluded system go advance
 tested_after-agrees system tested go past (Over course outcome) agree never = refl
-tested_after-agrees system tested go past (Onward course) agree never = by_repeat (repeats system past (snapshot course)) never
+tested_after-agrees system tested go past (Onward course) agree never = by_repeat (repeats system past (snapshot_of course)) never
   where
     ended : Run
-    ended = told system course (outcomes.Repeats (length past) (earlier_turn (length past)))
+    ended = concluded system course (outcomes.Repeats (length past) (earlier_turn (length past)))
 
     later : Run
-    later = tested (past ++ snapshot course ∷ []) course
+    later = tested (past ++ snapshot_of course ∷ []) course
 
     by_repeat : (repeat : Bool) → ¬ IsRepeat (cond repeat ended later).outcome → cond repeat ended later ≡ go course
     by_repeat true never = absurd (never tt)
-    by_repeat false never = agree (past ++ snapshot course ∷ []) course never
+    by_repeat false never = agree (past ++ snapshot_of course ∷ []) course never
 
 pub tested_from-agrees : {S : Type 0} (most : ℕ) (system : System S) (listed : List ℕ) →
     Agree (tested_from most system listed) (run_from most system listed)
@@ -43,5 +43,5 @@ tested_from-agrees (suc most) system listed = λ past course never.
 pub unrepeated-is_run : {S : Type 0} (system : System S) → UnrepeatedIsRun system
 unfolding tested_run run_of
 unrepeated-is_run system listed steps never =
-    let start = begun system steps in
-    tested_from-agrees (steps + 1) system listed (snapshot start ∷ []) start never
+    let start = first_course system steps in
+    tested_from-agrees (steps + 1) system listed (snapshot_of start ∷ []) start never

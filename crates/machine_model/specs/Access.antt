@@ -57,8 +57,8 @@ pending_of code None = pendings.Unborn
 pending_of code (Some thread) = pending_operation code thread thread.pending
 
 -- what the thread of this number waits to do
-abbrev pub pending : Module → State → ℕ → Pending
-pending code state number = pending_of code (slice_get state.threads number)
+abbrev pub pending_of_state : Module → State → ℕ → Pending
+pending_of_state code state number = pending_of code (slice_get state.threads number)
 
 abbrev pub access_of : Pending → Option Access
 access_of (pendings.Access site at len store) =

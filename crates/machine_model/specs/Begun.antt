@@ -6,10 +6,10 @@ use Rattle.machine_model.specs.declared.run.Outcome.TheVariants as outcomes
 use Rattle.machine_model.specs.declared.run.Reason.{Reason}
 use Rattle.machine_model.specs.declared.run.Run.{Run}
 use Rattle.machine_model.specs.Hold.{Held}
-use Rattle.machine_model.specs.Hold.Held.{Done, NotEnforced, Ran}
+use Rattle.machine_model.specs.Hold.Held.{Reordered, NotEnforced, RunOver}
 use Rattle.machine_model.specs.Policy.{releasing}
-use Rattle.machine_model.specs.Repeat.{Snapshot, earlier_turn, repeats, snapshot}
-use Rattle.machine_model.specs.Run.{Advance, Course, advanced, told}
+use Rattle.machine_model.specs.Repeat.{Snapshot, earlier_turn, repeats, snapshot_of}
+use Rattle.machine_model.specs.Run.{Advance, Course, advanced, concluded}
 use Rattle.machine_model.specs.Run.Advance.{Onward, Over}
 use Rattle.machine_model.specs.System.{System}
 
@@ -26,15 +26,15 @@ released_course thread course = record course { policy = releasing thread course
 
 -- with that turn the run may be over, and it may repeat an earlier one
 abbrev pub begun_by : {S : Type 0} → System S → List (Snapshot S) → Advance S → Begun S
-begun_by system past (Over course outcome) = Complete (told system course outcome)
+begun_by system past (Over course outcome) = Complete (concluded system course outcome)
 begun_by system past (Onward course) =
-    let now = snapshot course in
+    let now = snapshot_of course in
     if repeats system past now
-    then Complete (told system course (outcomes.Repeats (length past) (earlier_turn (length past))))
+    then Complete (concluded system course (outcomes.Repeats (length past) (earlier_turn (length past))))
     else Ready (past ++ now ∷ []) course
 
 abbrev pub begun_after : {S : Type 0} → System S → List ℕ → Race → Held S → Begun S
-begun_after system listed race (Done past course) =
+begun_after system listed race (Reordered past course) =
     begun_by system past (advanced system listed (released_course race.t1 course))
 begun_after system listed race (NotEnforced reason course) = NotBegun reason course
-begun_after system listed race (Ran run) = Complete run
+begun_after system listed race (RunOver run) = Complete run

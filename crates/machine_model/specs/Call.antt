@@ -27,6 +27,17 @@ most_threads = 16
 abbrev pub again : ℕ
 again = 11
 
+-- which of its decided numbers a row reads: where a created thread's number is stored, the thread that is joined, and
+-- where its result is stored
+abbrev pub place_in : List ℕ → ℕ
+place_in decided = slice_index decided 0
+
+abbrev pub joined_in : List ℕ → ℕ
+joined_in decided = slice_index decided 0
+
+abbrev pub result_place_in : List ℕ → ℕ
+result_place_in decided = slice_index decided 1
+
 -- the thread was made, and neither has ended nor was joined
 abbrev pub is_awaited : Option End → Bool
 is_awaited None = false
@@ -34,41 +45,41 @@ is_awaited (Some end) = not (is_some end.result) && not end.joined
 
 -- the call of the thread of this number has to wait
 unfoldable pub is_blocked : Shared → ℕ → Extern → List ℕ → Bool
-is_blocked shared number (Create function) decided = false
-is_blocked shared number Join decided = is_awaited (slice_get shared.ends (slice_index decided 0))
-is_blocked shared number ThreadExit decided = false
-is_blocked shared number SelfNumber decided = false
-is_blocked shared number MutexInit decided = false
-is_blocked shared number MutexDestroy decided = false
-is_blocked shared number Lock decided = false
-is_blocked shared number TryLock decided = false
-is_blocked shared number Unlock decided = false
-is_blocked shared number CondInit decided = false
-is_blocked shared number CondDestroy decided = false
-is_blocked shared number CondWait decided = false
-is_blocked shared number CondReturn decided = false
-is_blocked shared number Signal decided = false
-is_blocked shared number Broadcast decided = false
-is_blocked shared number Yield decided = false
-is_blocked shared number Usleep decided = false
-is_blocked shared number Sleep decided = false
-is_blocked shared number Malloc decided = false
-is_blocked shared number Calloc decided = false
-is_blocked shared number Free decided = false
-is_blocked shared number Memcpy decided = false
-is_blocked shared number Memmove decided = false
-is_blocked shared number Memset decided = false
-is_blocked shared number Strlen decided = false
-is_blocked shared number LlvmMemcpy decided = false
-is_blocked shared number LlvmMemmove decided = false
-is_blocked shared number LlvmMemset decided = false
-is_blocked shared number Putchar decided = false
-is_blocked shared number Puts decided = false
-is_blocked shared number (Printf pieces) decided = false
-is_blocked shared number Exit decided = false
-is_blocked shared number Abort decided = false
-is_blocked shared number AssertFail decided = false
-is_blocked shared number (Input slot width) decided = false
+is_blocked shared caller (Create function) decided = false
+is_blocked shared caller Join decided = is_awaited (slice_get shared.ends (joined_in decided))
+is_blocked shared caller ThreadExit decided = false
+is_blocked shared caller SelfNumber decided = false
+is_blocked shared caller MutexInit decided = false
+is_blocked shared caller MutexDestroy decided = false
+is_blocked shared caller Lock decided = false
+is_blocked shared caller TryLock decided = false
+is_blocked shared caller Unlock decided = false
+is_blocked shared caller CondInit decided = false
+is_blocked shared caller CondDestroy decided = false
+is_blocked shared caller CondWait decided = false
+is_blocked shared caller CondReturn decided = false
+is_blocked shared caller Signal decided = false
+is_blocked shared caller Broadcast decided = false
+is_blocked shared caller Yield decided = false
+is_blocked shared caller Usleep decided = false
+is_blocked shared caller Sleep decided = false
+is_blocked shared caller Malloc decided = false
+is_blocked shared caller Calloc decided = false
+is_blocked shared caller Free decided = false
+is_blocked shared caller Memcpy decided = false
+is_blocked shared caller Memmove decided = false
+is_blocked shared caller Memset decided = false
+is_blocked shared caller Strlen decided = false
+is_blocked shared caller LlvmMemcpy decided = false
+is_blocked shared caller LlvmMemmove decided = false
+is_blocked shared caller LlvmMemset decided = false
+is_blocked shared caller Putchar decided = false
+is_blocked shared caller Puts decided = false
+is_blocked shared caller (Printf pieces) decided = false
+is_blocked shared caller Exit decided = false
+is_blocked shared caller Abort decided = false
+is_blocked shared caller AssertFail decided = false
+is_blocked shared caller (Input slot width) decided = false
 
 -- adds the end of a thread and stores its number; at the limit it stores nothing
 abbrev pub created : Shared → ℕ → Effect Returned
@@ -119,38 +130,38 @@ printed shared byte =
 
 -- what a call that is not blocked does, with these arguments and its numbers decided
 unfoldable pub call_of : Shared → ℕ → Extern → List ℕ → List ℕ → Effect Returned
-call_of shared number (Create function) arguments decided = created shared (slice_index decided 0)
-call_of shared number Join arguments decided = joined shared (slice_index decided 0) (slice_index decided 1)
-call_of shared number Putchar arguments decided = printed shared (slice_index arguments 0 % 256)
-call_of shared number ThreadExit arguments decided = NoRow
-call_of shared number SelfNumber arguments decided = NoRow
-call_of shared number MutexInit arguments decided = NoRow
-call_of shared number MutexDestroy arguments decided = NoRow
-call_of shared number Lock arguments decided = NoRow
-call_of shared number TryLock arguments decided = NoRow
-call_of shared number Unlock arguments decided = NoRow
-call_of shared number CondInit arguments decided = NoRow
-call_of shared number CondDestroy arguments decided = NoRow
-call_of shared number CondWait arguments decided = NoRow
-call_of shared number CondReturn arguments decided = NoRow
-call_of shared number Signal arguments decided = NoRow
-call_of shared number Broadcast arguments decided = NoRow
-call_of shared number Yield arguments decided = NoRow
-call_of shared number Usleep arguments decided = NoRow
-call_of shared number Sleep arguments decided = NoRow
-call_of shared number Malloc arguments decided = NoRow
-call_of shared number Calloc arguments decided = NoRow
-call_of shared number Free arguments decided = NoRow
-call_of shared number Memcpy arguments decided = NoRow
-call_of shared number Memmove arguments decided = NoRow
-call_of shared number Memset arguments decided = NoRow
-call_of shared number Strlen arguments decided = NoRow
-call_of shared number LlvmMemcpy arguments decided = NoRow
-call_of shared number LlvmMemmove arguments decided = NoRow
-call_of shared number LlvmMemset arguments decided = NoRow
-call_of shared number Puts arguments decided = NoRow
-call_of shared number (Printf pieces) arguments decided = NoRow
-call_of shared number Exit arguments decided = NoRow
-call_of shared number Abort arguments decided = NoRow
-call_of shared number AssertFail arguments decided = NoRow
-call_of shared number (Input slot width) arguments decided = NoRow
+call_of shared caller (Create function) arguments decided = created shared (place_in decided)
+call_of shared caller Join arguments decided = joined shared (joined_in decided) (result_place_in decided)
+call_of shared caller Putchar arguments decided = printed shared (slice_index arguments 0 % 256)
+call_of shared caller ThreadExit arguments decided = NoRow
+call_of shared caller SelfNumber arguments decided = NoRow
+call_of shared caller MutexInit arguments decided = NoRow
+call_of shared caller MutexDestroy arguments decided = NoRow
+call_of shared caller Lock arguments decided = NoRow
+call_of shared caller TryLock arguments decided = NoRow
+call_of shared caller Unlock arguments decided = NoRow
+call_of shared caller CondInit arguments decided = NoRow
+call_of shared caller CondDestroy arguments decided = NoRow
+call_of shared caller CondWait arguments decided = NoRow
+call_of shared caller CondReturn arguments decided = NoRow
+call_of shared caller Signal arguments decided = NoRow
+call_of shared caller Broadcast arguments decided = NoRow
+call_of shared caller Yield arguments decided = NoRow
+call_of shared caller Usleep arguments decided = NoRow
+call_of shared caller Sleep arguments decided = NoRow
+call_of shared caller Malloc arguments decided = NoRow
+call_of shared caller Calloc arguments decided = NoRow
+call_of shared caller Free arguments decided = NoRow
+call_of shared caller Memcpy arguments decided = NoRow
+call_of shared caller Memmove arguments decided = NoRow
+call_of shared caller Memset arguments decided = NoRow
+call_of shared caller Strlen arguments decided = NoRow
+call_of shared caller LlvmMemcpy arguments decided = NoRow
+call_of shared caller LlvmMemmove arguments decided = NoRow
+call_of shared caller LlvmMemset arguments decided = NoRow
+call_of shared caller Puts arguments decided = NoRow
+call_of shared caller (Printf pieces) arguments decided = NoRow
+call_of shared caller Exit arguments decided = NoRow
+call_of shared caller Abort arguments decided = NoRow
+call_of shared caller AssertFail arguments decided = NoRow
+call_of shared caller (Input slot width) arguments decided = NoRow

@@ -1,7 +1,8 @@
--- The numbers that an instruction decides, whether or not they depend on the input. First come addresses and
--- thread numbers by argument, which a visible instruction decides when it becomes pending; then sizes,
--- lengths, outcomes and the bytes of strings, which it decides when it runs.
-use Rattle.std.specs.Prelude.{ℕ, ◌%◌, ◌^◌, Bool, true, false, List, [], ◌∷◌, map, slice_index, Result, Ok, Err, if◌then◌else◌}
+-- The numbers that an instruction decides, one after another, whether or not they depend on the input. First come
+-- addresses and thread numbers by argument, which a visible instruction decides when it becomes pending; then sizes,
+-- lengths, outcomes and the bytes of strings, which it decides when it runs, and each of which may rest on those
+-- before it.
+use Rattle.std.specs.Prelude.{ℕ, zero, suc, ◌%◌, ◌^◌, Bool, true, false, List, [], ◌∷◌, ◌++◌, map, slice_index, Option, Some, None, Result, Ok, Err, if◌then◌else◌}
 use Rattle.ir_types.specs.declared.instruction.Inst.{Inst}
 use Rattle.ir_types.specs.declared.instruction.Inst.TheVariants.{Binary, Compare, Convert, Same, Select, Phi, Alloca, Load, Store, Address, Branch, BranchIf, Switch, Ret, Unreachable, Call, External}
 use Rattle.ir_types.specs.declared.instruction.Operand.{Operand}
@@ -106,23 +107,47 @@ test_of (Err DivZero) = 1
 test_of (Err DivOverflow) = 2
 test_of (Err Overshift) = 1
 
--- the other numbers of an instruction, at these objects
-unfoldable pub outcomes_of : Module → List Object → Frame → Inst → List ℕ
-outcomes_of code objects frame (Binary to op a b) =
-    if is_tested op then test_of (value_of_binary code frame op a b) ∷ [] else []
-outcomes_of code objects frame (Compare to op a b) = []
-outcomes_of code objects frame (Convert to op a width) = []
-outcomes_of code objects frame (Same to a) = []
-outcomes_of code objects frame (Select to c a b) = []
-outcomes_of code objects frame (Phi to edges) = []
-outcomes_of code objects frame (Alloca to unit count) = []
-outcomes_of code objects frame (Load to kind at) = []
-outcomes_of code objects frame (Store kind value at) = []
-outcomes_of code objects frame (Address to base fixed scaled) = []
-outcomes_of code objects frame (Branch block) = []
-outcomes_of code objects frame (BranchIf c one other) = []
-outcomes_of code objects frame (Switch value default cases) = []
-outcomes_of code objects frame (Ret value) = []
-outcomes_of code objects frame Unreachable = []
-outcomes_of code objects frame (Call to function arguments) = []
-outcomes_of code objects frame (External to which arguments) = []
+-- a single number, unless it was decided
+abbrev pub once : ℕ → List ℕ → Option ℕ
+once number [] = Some number
+once number (first ∷ later) = None
+
+-- the number that an instruction decides next, after those that it has decided since its addresses; none where it has
+-- decided all of them
+unfoldable pub next_number : Module → List Object → Frame → List ℕ → Inst → List ℕ → Option ℕ
+next_number code objects frame addresses (Binary to op a b) decided =
+    if is_tested op then once (test_of (value_of_binary code frame op a b)) decided else None
+next_number code objects frame addresses (Compare to op a b) decided = None
+next_number code objects frame addresses (Convert to op a width) decided = None
+next_number code objects frame addresses (Same to a) decided = None
+next_number code objects frame addresses (Select to c a b) decided = None
+next_number code objects frame addresses (Phi to edges) decided = None
+next_number code objects frame addresses (Alloca to unit count) decided = None
+next_number code objects frame addresses (Load to kind at) decided = None
+next_number code objects frame addresses (Store kind value at) decided = None
+next_number code objects frame addresses (Address to base fixed scaled) decided = None
+next_number code objects frame addresses (Branch block) decided = None
+next_number code objects frame addresses (BranchIf c one other) decided = None
+next_number code objects frame addresses (Switch value default cases) decided = None
+next_number code objects frame addresses (Ret value) decided = None
+next_number code objects frame addresses Unreachable decided = None
+next_number code objects frame addresses (Call to function arguments) decided = None
+next_number code objects frame addresses (External to which arguments) decided = None
+
+abbrev pub number_then : (List ℕ → List ℕ) → List ℕ → Option ℕ → List ℕ
+number_then go decided None = decided
+number_then go decided (Some number) = go (decided ++ number ∷ [])
+
+-- the numbers decided one after another, of which there are at most `most` beyond these
+unfoldable pub numbers_within : ℕ → (List ℕ → Option ℕ) → List ℕ → List ℕ
+numbers_within zero next decided = decided
+numbers_within (suc most) next decided = number_then (numbers_within most next) decided (next decided)
+
+-- no instruction decides more numbers after its addresses
+abbrev pub most_numbers : ℕ
+most_numbers = 1
+
+-- all numbers that an instruction decides after its addresses
+abbrev pub numbers_of : Module → List Object → Frame → List ℕ → Inst → List ℕ
+numbers_of code objects frame addresses inst =
+    numbers_within most_numbers (next_number code objects frame addresses inst) []

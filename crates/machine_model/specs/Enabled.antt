@@ -43,16 +43,16 @@ waits_in setting shared number decided None = false
 waits_in setting shared number decided (Some frame) = waits_at shared number decided (next_in setting.code frame)
 
 -- the operation of the thread, which has this number, has to wait
-unfoldable pub waits : Setting → Shared → ℕ → Thread → Operation → Bool
-waits setting shared number thread Start = false
-waits setting shared number thread (At site decided) = waits_in setting shared number decided (top thread)
-waits setting shared number thread (CondReturn site decided) = false
-waits setting shared number thread Nothing = false
+unfoldable pub has_to_wait : Setting → Shared → ℕ → Thread → Operation → Bool
+has_to_wait setting shared number thread Start = false
+has_to_wait setting shared number thread (At site decided) = waits_in setting shared number decided (top thread)
+has_to_wait setting shared number thread (CondReturn site decided) = false
+has_to_wait setting shared number thread Nothing = false
 
 abbrev pub may_run : Setting → Shared → ℕ → Option Thread → Bool
 may_run setting shared number None = false
 may_run setting shared number (Some thread) =
-    not (has_ended thread) && not (waits setting shared number thread thread.pending)
+    not (has_ended thread) && not (has_to_wait setting shared number thread thread.pending)
 
 -- the thread was made, has not ended, and its pending operation is not blocked
 unfoldable pub is_enabled : Setting → State → ℕ → Bool

@@ -1,12 +1,12 @@
 -- What holds of every run of a job: its turns can be recorded and replayed.
-use Rattle.std.specs.Prelude.{◌≡◌}
+use Rattle.std.specs.Prelude.{◌≡◌, ℕ}
 use Rattle.ir_types.specs.declared.input.Input.{Input}
 use Rattle.ir_types.specs.declared.«module».Module.{Module}
 use Rattle.machine_model.specs.declared.case.Case.{Case}
 use Rattle.machine_model.specs.declared.race.Race.{Race}
 use Rattle.machine_model.specs.declared.run.Run.{Run}
 use Rattle.machine_model.specs.Job.{AlternateJob, PrimaryJob}
-use Rattle.machine_model.specs.Job.Alternate.{Runs}
+use Rattle.machine_model.specs.Job.Alternate.{Ran}
 use Rattle.machine_model.specs.JobLaws.{IsRepeat}
 use Rattle.machine_model.specs.Primary.{Primary}
 
@@ -21,5 +21,5 @@ PrimaryJobReplays = (code : Module) (case : Case) (input : Input) → Replays co
 -- also where a thread was held on the way
 abbrev pub AlternateReplays : Type 0
 AlternateReplays =
-    (code : Module) (case : Case) (race : Race) (input : Input) (run : Run) →
-    AlternateJob code case race input ≡ Runs run → Replays code case input run
+    (code : Module) (case : Case) (race : Race) (input : Input) (schedule : ℕ) (run : Run) →
+    AlternateJob code case race input schedule ≡ Ran run → Replays code case input run

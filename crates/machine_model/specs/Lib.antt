@@ -31,6 +31,7 @@ pub mod ReplayLaws
 pub mod Run
 pub mod Runnable
 pub mod Setting
+pub mod ShapeLaws
 pub mod Shared
 pub mod Start
 pub mod Step

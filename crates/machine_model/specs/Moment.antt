@@ -3,7 +3,7 @@ use Rattle.std.specs.Prelude.{ℕ, zero, suc, ◌+◌, ◌-◌, ◌==◌, List, 
 use Rattle.machine_model.specs.declared.access.Access.{Access}
 use Rattle.machine_model.specs.Access.{access_of}
 use Rattle.machine_model.specs.Policy.{Choice, choose}
-use Rattle.machine_model.specs.Run.{Advance, Course, advanced_with, begun}
+use Rattle.machine_model.specs.Run.{Advance, Course, advanced_with, first_course}
 use Rattle.machine_model.specs.Run.Advance.{Onward, Over}
 use Rattle.machine_model.specs.System.{System}
 
@@ -32,7 +32,7 @@ moments_from (suc most) system listed course =
 
 -- the moments of the run that follows a list of turns within a budget of steps
 unfoldable pub moments_of : {S : Type 0} → System S → List ℕ → ℕ → List (Moment S)
-moments_of system listed steps = moments_from (steps + 1) system listed (begun system steps)
+moments_of system listed steps = moments_from (steps + 1) system listed (first_course system steps)
 
 -- the access that the turn does, if it does one. One that traps is done; where no step is left, nothing is
 abbrev pub access_at : {S : Type 0} → System S → Moment S → Option Access

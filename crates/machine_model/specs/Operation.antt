@@ -20,7 +20,7 @@ use Rattle.machine_model.specs.Instruction.{effect_of}
 use Rattle.machine_model.specs.Memory.{without}
 use Rattle.machine_model.specs.Setting.{Setting}
 use Rattle.machine_model.specs.Shared.{Shared, shared_of, with_shared}
-use Rattle.machine_model.specs.Thread.{made, with_top, has_ended, value_of, onward_after}
+use Rattle.machine_model.specs.Thread.{made, with_top, has_ended, value_of, moved_on_after}
 
 -- the calls by which threads meet or wait, and those that print or end the process
 unfoldable pub is_visible_call : Extern → Bool
@@ -165,10 +165,10 @@ changed_by state others shared =
     then record after { threads = after.threads ++ others } else after
 
 -- the caller goes on with the result, and what the call prints is added to the output
-abbrev pub returned : State → List Thread → ℕ → Frame → Option ℕ → Returned → State
-returned before others number frame to call =
+abbrev pub after_call : State → List Thread → ℕ → Frame → Option ℕ → Returned → State
+after_call before others number frame to call =
     let state = changed_by before others call.shared in
-    let after = with_frame state number (onward_after frame to call.result) (slice_get state.threads number) in
+    let after = with_frame state number (moved_on_after frame to call.result) (slice_get state.threads number) in
     record after { output = before.output ++ call.items }
 
 -- each item that is printed costs 1
@@ -229,5 +229,5 @@ visible_effect setting state number thread frame decided (Call to function argum
 visible_effect setting state number thread frame decided (External to which arguments) =
     let values = map (value_of frame) arguments in
     if is_blocked (shared_of state) number which decided then Blocks
-    else charged_for_items (returned state (made_by setting.code which values) number frame to)
+    else charged_for_items (after_call state (made_by setting.code which values) number frame to)
     (call_of (shared_of state) number which values decided)

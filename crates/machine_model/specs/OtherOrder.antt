@@ -7,9 +7,9 @@ use Rattle.machine_model.specs.declared.race.Race.{Race}
 use Rattle.machine_model.specs.declared.state.State.{State}
 use Rattle.machine_model.specs.Access.{access_of}
 use Rattle.machine_model.specs.Begun.{released_course}
-use Rattle.machine_model.specs.Hold.Held.{Done}
+use Rattle.machine_model.specs.Hold.Held.{Reordered}
 use Rattle.machine_model.specs.HoldLaws.{DidSecond}
-use Rattle.machine_model.specs.Job.{HoldPoint, held_course, held_on, hold_point}
+use Rattle.machine_model.specs.Job.{HoldPoint, held_course, hold_at, point_of}
 use Rattle.machine_model.specs.Policy.{Choice, choose}
 use Rattle.machine_model.specs.Primary.{setting_of}
 use Rattle.machine_model.specs.Repeat.{Snapshot}
@@ -31,13 +31,13 @@ abbrev pub HoldTurnsRound : {S : Type 0} → System S → Type 0
 HoldTurnsRound {S} system =
     (listed : List ℕ) (race : Race) (point : HoldPoint S) (snapshots : List (Snapshot S)) (after : Course S) →
     MayDo system point.course.state race.t1 point.first →
-    held_on system listed race point ≡ Done snapshots after → IsTurnedRound system listed race point snapshots after
+    hold_at system listed race point ≡ Reordered snapshots after → IsTurnedRound system listed race point snapshots after
 
 -- and that of a module and a case
 abbrev pub OrderIsTurnedRound : Type 0
 OrderIsTurnedRound =
     (code : Module) (case : Case) (race : Race) (input : Input) (point : HoldPoint State)
     (snapshots : List (Snapshot State)) (after : Course State) →
-    hold_point code case race input ≡ Some point →
-    held_on (machine_of (setting_of code case input)) case.turns race point ≡ Done snapshots after →
+    point_of code case race input ≡ Some point →
+    hold_at (machine_of (setting_of code case input)) case.turns race point ≡ Reordered snapshots after →
     IsTurnedRound (machine_of (setting_of code case input)) case.turns race point snapshots after

@@ -32,7 +32,7 @@ use Rattle.machine_model.specs.declared.run.Run.{Run}
 use Rattle.machine_model.specs.declared.state.OutItem.{OutItem}
 use Rattle.machine_model.specs.Example.{at_g, at_t, null, t, zero}
 use Rattle.machine_model.specs.Job.{Alternate, AlternateJob, PrimaryJob}
-use Rattle.machine_model.specs.Job.Alternate.{Runs, Not, Absent}
+use Rattle.machine_model.specs.Job.Alternate.{Ran, Not, Absent}
 
 abbrev pub byte_65 : Word
 byte_65 = record { width = W32; bits = 65; in_range = lit< tt }
@@ -105,8 +105,8 @@ ordered = example (joins_first ∷ stores byte_66 ∷ []) (threads_joined ++ pri
 abbrev pub leaving : Module
 leaving = example (joins_first ∷ stores byte_66 ∷ []) []
 
-abbrev pub site : ℕ → ℕ → Site
-site function inst = record { function = function; inst = inst }
+abbrev pub site_of : ℕ → ℕ → Site
+site_of function inst = record { function = function; inst = inst }
 
 -- the stores are watched, that of thread 2 with this number; a budget of steps; the recorded turns
 abbrev pub case_of : Input → ℕ → ℕ → List ℕ → Case
@@ -117,7 +117,7 @@ case_of input second steps turns = record {
   paths = 1;
   schedules = 1;
   input = input;
-  watch = site 0 0 ∷ site 1 second ∷ [];
+  watch = site_of 0 0 ∷ site_of 1 second ∷ [];
   turns = turns;
   races = [];
 }
@@ -125,27 +125,27 @@ case_of input second steps turns = record {
 -- the race of thread 1's second turn, and the store of thread 2
 abbrev pub race_of : ℕ → ℕ → ℕ → Race
 race_of first second inst =
-    record { first = first; second = second; t1 = 1; v1 = 2; s1 = site 0 0; t2 = 2; s2 = site 1 inst }
+    record { first = first; second = second; t1 = 1; v1 = 2; s1 = site_of 0 0; t2 = 2; s2 = site_of 1 inst }
 
 -- what a report tells of a run
-pub record Told : Type 0 where
+pub record Shown : Type 0 where
   pub turns : List ℕ
   pub output : List OutItem
   pub outcome : Outcome
 
-abbrev pub told_run : Run → Told
-told_run run = record { turns = run.turns; output = run.output; outcome = run.outcome }
+abbrev pub shown_run : Run → Shown
+shown_run run = record { turns = run.turns; output = run.output; outcome = run.outcome }
 
-abbrev pub told : Alternate → Option Told
-told (Runs run) = Some (told_run run)
-told (Not reason turns) = None
-told Absent = None
+abbrev pub shown : Alternate → Option Shown
+shown (Ran run) = Some (shown_run run)
+shown (Not reason turns) = None
+shown Absent = None
 
 abbrev pub printed_byte : ℕ → List OutItem
 printed_byte byte = record { kind = Byte; bits = byte } ∷ []
 
-abbrev pub prints : ℕ → List OutItem
-prints byte = record { kind = Byte; bits = byte } ∷ record { kind = Status; bits = 0 } ∷ []
+abbrev pub whole_output : ℕ → List OutItem
+whole_output byte = record { kind = Byte; bits = byte } ∷ record { kind = Status; bits = 0 } ∷ []
 
 abbrev pub both_turns : List ℕ
 both_turns = 0 ∷ 0 ∷ 0 ∷ 1 ∷ 2 ∷ 1 ∷ 2 ∷ 1 ∷ 2 ∷ 0 ∷ 0 ∷ 0 ∷ 0 ∷ []
@@ -161,12 +161,12 @@ abbrev pub first_turns : List ℕ
 first_turns = 0 ∷ 0 ∷ 0 ∷ 1 ∷ 2 ∷ 1 ∷ 2 ∷ []
 
 -- the two orders of the example `differing`, within a budget of steps
-abbrev pub recorded_order : Input → List ℕ → ℕ → Told
-recorded_order input turns steps = told_run (PrimaryJob differing (case_of input 0 steps turns) input)
+abbrev pub recorded_order : Input → List ℕ → ℕ → Shown
+recorded_order input turns steps = shown_run (PrimaryJob differing (case_of input 0 steps turns) input)
 
-abbrev pub other_order : Input → List ℕ → ℕ → Option Told
+abbrev pub other_order : Input → List ℕ → ℕ → Option Shown
 other_order input turns steps =
-    told (AlternateJob differing (case_of input 0 steps turns) (race_of 6 7 0) input)
+    shown (AlternateJob differing (case_of input 0 steps turns) (race_of 6 7 0) input 1)
 
 -- thread 2's store comes first and then thread 1's; the rest as recorded
 abbrev pub turned_round : List ℕ
@@ -180,7 +180,7 @@ abbrev pub up_to_join : List ℕ
 up_to_join = 0 ∷ 0 ∷ 0 ∷ 1 ∷ 2 ∷ 1 ∷ 2 ∷ 1 ∷ 2 ∷ 0 ∷ 0 ∷ []
 
 abbrev pub ordered_alternate : Input → Alternate
-ordered_alternate input = AlternateJob ordered (case_of input 1 1000 ordered_turns) (race_of 6 9 1) input
+ordered_alternate input = AlternateJob ordered (case_of input 1 1000 ordered_turns) (race_of 6 9 1) input 1
 
 abbrev pub leaving_alternate : Input → Alternate
-leaving_alternate input = AlternateJob leaving (case_of input 1 1000 leaving_turns) (race_of 5 9 1) input
+leaving_alternate input = AlternateJob leaving (case_of input 1 1000 leaving_turns) (race_of 5 9 1) input 1

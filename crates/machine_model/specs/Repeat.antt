@@ -24,8 +24,8 @@ pub record Snapshot (S : Type 0) : Type 0 where
   pub state : S
   pub policy : Policy
 
-abbrev pub snapshot : {S : Type 0} → Course S → Snapshot S
-snapshot course = record { state = course.state; policy = course.policy }
+abbrev pub snapshot_of : {S : Type 0} → Course S → Snapshot S
+snapshot_of course = record { state = course.state; policy = course.policy }
 
 abbrev pub same_snapshot : {S : Type 0} → System S → Snapshot S → Snapshot S → Bool
 same_snapshot system one other = system.same one.state other.state && same_policy one.policy other.policy

@@ -23,8 +23,8 @@ pub data Advance (S : Type 0) : Type 0 where
   Onward : Course S → Advance S
   Over : Course S → Outcome → Advance S
 
-abbrev pub told : {S : Type 0} → System S → Course S → Outcome → Run
-told system course outcome =
+abbrev pub concluded : {S : Type 0} → System S → Course S → Outcome → Run
+concluded system course outcome =
     record { turns = course.turns; decisions = course.decided; output = system.output course.state; outcome = outcome }
 
 -- the course after a turn of the chosen thread, also where it trapped or was cut
@@ -54,20 +54,20 @@ unfoldable pub advanced : {S : Type 0} → System S → List ℕ → Course S �
 advanced system listed course =
     advanced_with system course (choose listed course.policy (system.enabled course.state))
 
-abbrev pub onward_or_told : {S : Type 0} → System S → (Course S → Run) → Advance S → Run
-onward_or_told system go (Onward course) = go course
-onward_or_told system go (Over course outcome) = told system course outcome
+abbrev pub onward_or_concluded : {S : Type 0} → System S → (Course S → Run) → Advance S → Run
+onward_or_concluded system go (Onward course) = go course
+onward_or_concluded system go (Over course outcome) = concluded system course outcome
 
 -- the run from here on, of at most `most` turns
 unfoldable pub run_from : {S : Type 0} → ℕ → System S → List ℕ → Course S → Run
-run_from zero system listed course = told system course outcomes.Spent
+run_from zero system listed course = concluded system course outcomes.Spent
 run_from (suc most) system listed course =
-    onward_or_told system (run_from most system listed) (advanced system listed course)
+    onward_or_concluded system (run_from most system listed) (advanced system listed course)
 
-abbrev pub begun : {S : Type 0} → System S → ℕ → Course S
-begun system steps =
+abbrev pub first_course : {S : Type 0} → System S → ℕ → Course S
+first_course system steps =
     record { state = system.start; left = steps; decided = []; turns = []; policy = from_front }
 
 -- the run that follows a list of turns within a budget of steps; each turn costs at least 1, or is cut
 unfoldable pub run_of : {S : Type 0} → System S → List ℕ → ℕ → Run
-run_of system listed steps = run_from (steps + 1) system listed (begun system steps)
+run_of system listed steps = run_from (steps + 1) system listed (first_course system steps)

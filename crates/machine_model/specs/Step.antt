@@ -8,7 +8,7 @@ use Rattle.machine_model.specs.declared.state.Operation.TheVariants.{Start, At, 
 use Rattle.machine_model.specs.declared.state.State.{State}
 use Rattle.machine_model.specs.declared.state.Thread.{Thread}
 use Rattle.machine_model.specs.Code.{Placed, next_in}
-use Rattle.machine_model.specs.Decision.{addresses_of, outcomes_of}
+use Rattle.machine_model.specs.Decision.{addresses_of, numbers_of}
 use Rattle.machine_model.specs.Effect.{Effect, Footprint}
 use Rattle.machine_model.specs.Instruction.{effect_of}
 use Rattle.machine_model.specs.Operation.{is_visible, visible_effect}
@@ -19,14 +19,14 @@ pub data Step (S : Type 0) : Type 0 where
   -- an instruction becomes pending and leaves this, these addresses decided
   Waits : S → List ℕ → Step S
   -- it decides these numbers and has this effect
-  Runs : List ℕ → Site → Effect S → Step S
+  Does : List ℕ → Site → Effect S → Step S
   -- a thread starts, which changes nothing
   Starts : Step S
   -- there is none to take
   Lacks : Step S
 
-abbrev pub waiting : Footprint → Site → List ℕ → Footprint
-waiting footprint site addresses =
+abbrev pub made_pending : Footprint → Site → List ℕ → Footprint
+made_pending footprint site addresses =
     record footprint { thread = record footprint.thread { pending = At site addresses } }
 
 -- a visible instruction becomes pending, and an invisible one is run
@@ -35,9 +35,9 @@ next_step_at setting number footprint frame None = Lacks
 next_step_at setting number footprint frame (Some placed) =
     let addresses = addresses_of frame placed.inst in
     if is_visible setting.watch footprint.thread placed.site placed.inst
-    then Waits (waiting footprint placed.site addresses) addresses
-    else (let numbers = addresses ++ outcomes_of setting.code footprint.objects frame placed.inst in
-    Runs numbers placed.site (effect_of setting number footprint frame numbers placed.inst))
+    then Waits (made_pending footprint placed.site addresses) addresses
+    else (let numbers = addresses ++ numbers_of setting.code footprint.objects frame addresses placed.inst in
+    Does numbers placed.site (effect_of setting number footprint frame numbers placed.inst))
 
 abbrev pub next_step_in : Setting → ℕ → Footprint → Option Frame → Step Footprint
 next_step_in setting number footprint None = Lacks
@@ -51,8 +51,8 @@ next_step setting number footprint = next_step_in setting number footprint (top 
 abbrev pub first_step_at : Setting → State → ℕ → Thread → List ℕ → Frame → Option Placed → Step State
 first_step_at setting state number thread addresses frame None = Lacks
 first_step_at setting state number thread addresses frame (Some placed) =
-    let outcomes = outcomes_of setting.code state.objects frame placed.inst in
-    Runs outcomes placed.site (visible_effect setting state number thread frame (addresses ++ outcomes) placed.inst)
+    let numbers = numbers_of setting.code state.objects frame addresses placed.inst in
+    Does numbers placed.site (visible_effect setting state number thread frame (addresses ++ numbers) placed.inst)
 
 abbrev pub first_step_in : Setting → State → ℕ → Thread → List ℕ → Option Frame → Step State
 first_step_in setting state number thread addresses None = Lacks

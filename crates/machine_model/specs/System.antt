@@ -5,7 +5,7 @@ use Rattle.machine_model.specs.declared.pending.Pending.{Pending}
 use Rattle.machine_model.specs.declared.state.OutItem.{OutItem}
 use Rattle.machine_model.specs.declared.state.State.{State}
 use Rattle.machine_model.specs.declared.state.Thread.{Thread}
-use Rattle.machine_model.specs.Access.{pending}
+use Rattle.machine_model.specs.Access.{pending_of_state}
 use Rattle.machine_model.specs.Enabled.{enabled}
 use Rattle.machine_model.specs.Setting.{Setting}
 use Rattle.machine_model.specs.Start.{started}
@@ -43,7 +43,7 @@ machine_of setting = record {
   start = started setting.code;
   enabled = enabled setting;
   turn = turn setting;
-  pending = pending setting.code;
+  pending = pending_of_state setting.code;
   ended = λ state number. thread_has_ended (slice_get state.threads number);
   output = λ state. state.output;
   same = same_state;

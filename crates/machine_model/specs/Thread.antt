@@ -54,16 +54,16 @@ width_of_operand code frame (Register register) =
 width_of_operand code frame (Constant word) = word.width
 
 -- the frame goes on to the next instruction
-abbrev pub onward : Frame → Frame
-onward frame = record frame { place = frame.place + 1 }
+abbrev pub moved_on : Frame → Frame
+moved_on frame = record frame { place = frame.place + 1 }
 
 -- and has a number in a register
-abbrev pub onward_with : Frame → ℕ → ℕ → Frame
-onward_with frame register number =
+abbrev pub moved_on_with : Frame → ℕ → ℕ → Frame
+moved_on_with frame register number =
     record frame { place = frame.place + 1; registers = slice_set frame.registers register number }
 
 -- a call's result goes into its register, where it has both
-abbrev pub onward_after : Frame → Option ℕ → Option ℕ → Frame
-onward_after frame (Some register) (Some number) = onward_with frame register number
-onward_after frame (Some register) None = onward frame
-onward_after frame None result = onward frame
+abbrev pub moved_on_after : Frame → Option ℕ → Option ℕ → Frame
+moved_on_after frame (Some register) (Some number) = moved_on_with frame register number
+moved_on_after frame (Some register) None = moved_on frame
+moved_on_after frame None result = moved_on frame

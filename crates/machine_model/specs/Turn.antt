@@ -1,6 +1,6 @@
 -- A turn of a thread: its pending operation, and then its invisible instructions until its next operation is
 -- pending or it has ended.
-use Rattle.std.specs.Prelude.{ℕ, zero, suc, ◌+◌, ◌-◌, ◌==◌, nat_le, List, [], ◌++◌, slice_get, Option, Some, None, if◌then◌else◌}
+use Rattle.std.specs.Prelude.{ℕ, zero, suc, ◌+◌, ◌-◌, nat_lt, List, [], ◌++◌, slice_get, Option, Some, None, if◌then◌else◌}
 use Rattle.ir_types.specs.declared.instruction.Site.{Site}
 use Rattle.machine_model.specs.declared.run.TurnEnd.{TurnEnd}
 use Rattle.machine_model.specs.declared.run.TurnEnd.TheVariants as ends
@@ -11,7 +11,7 @@ use Rattle.machine_model.specs.Effect.Effect.{Done, Pauses, Exits, Traps, Blocks
 use Rattle.machine_model.specs.Operation.{footprint_of, put_back}
 use Rattle.machine_model.specs.Setting.{Setting}
 use Rattle.machine_model.specs.Step.{Step, first_step, next_step}
-use Rattle.machine_model.specs.Step.Step.{Waits, Runs, Starts, Lacks}
+use Rattle.machine_model.specs.Step.Step.{Waits, Does, Starts, Lacks}
 use Rattle.machine_model.specs.Thread.{has_ended}
 
 -- what a turn leaves, or a part of one: what it changed, the steps that are left, the numbers it decided
@@ -26,73 +26,92 @@ pub data Move (S : Type 0) : Type 0 where
   Leads : S → ℕ → List ℕ → Move S
   Stops : Turned S → Move S
 
-abbrev pub stops : {S : Type 0} → S → ℕ → List ℕ → TurnEnd → Move S
-stops after left decided end = Stops (record { after = after; left = left; decided = decided; end = end })
+abbrev pub stopped : {S : Type 0} → S → ℕ → List ℕ → TurnEnd → Move S
+stopped after left decided end = Stops (record { after = after; left = left; decided = decided; end = end })
 
--- an effect is cut where it costs more than is left; then it changes nothing, and its numbers were decided
+-- what an effect costs; none where nothing is done
+abbrev pub cost_of_effect : {S : Type 0} → Effect S → Option ℕ
+cost_of_effect (Done more after) = Some (more + 1)
+cost_of_effect (Pauses more after) = Some (more + 1)
+cost_of_effect (Exits more status after) = Some (more + 1)
+cost_of_effect (Traps trap) = Some 1
+cost_of_effect Blocks = None
+cost_of_effect NoRow = None
+
+-- what a step costs: becoming pending nothing, and a start 1; none where there is no step to take
+abbrev pub cost_of : {S : Type 0} → Step S → Option ℕ
+cost_of (Waits after addresses) = Some 0
+cost_of (Does numbers site effect) = cost_of_effect effect
+cost_of Starts = Some 1
+cost_of Lacks = None
+
+-- where a cost is more than what is left, the step is cut
+abbrev pub afforded : {S : Type 0} → S → ℕ → List ℕ → (ℕ → Move S) → Option ℕ → Move S
+afforded before left decided go None = stopped before left decided ends.Spent
+afforded before left decided go (Some cost) =
+    if nat_lt left cost then stopped before left decided ends.Spent else go (left - cost)
+
+-- where an effect leads that was paid, with so much left
+abbrev pub led_by : {S : Type 0} → S → ℕ → List ℕ → Site → Effect S → Move S
+led_by before rest decided site (Done more after) = Leads after rest decided
+led_by before rest decided site (Pauses more after) = stopped after rest decided ends.Going
+led_by before rest decided site (Exits more status after) = stopped after rest decided (ends.Exit status)
+led_by before rest decided site (Traps trap) = stopped before rest decided (ends.Trap trap site)
+led_by before rest decided site Blocks = stopped before rest decided ends.Spent
+led_by before rest decided site NoRow = stopped before rest decided ends.Spent
+
+-- an effect is paid from what is left; one that is cut changes nothing, and its numbers were decided
 unfoldable pub charged : {S : Type 0} → S → ℕ → List ℕ → Site → Effect S → Move S
-charged before left decided site (Done more after) =
-    if nat_le left more then stops before left decided ends.Spent else Leads after (left - (more + 1)) decided
-charged before left decided site (Pauses more after) =
-    if nat_le left more then stops before left decided ends.Spent
-    else stops after (left - (more + 1)) decided ends.Going
-charged before left decided site (Exits more status after) =
-    if nat_le left more then stops before left decided ends.Spent
-    else stops after (left - (more + 1)) decided (ends.Exit status)
-charged before left decided site (Traps trap) =
-    if left == 0 then stops before left decided ends.Spent
-    else stops before (left - 1) decided (ends.Trap trap site)
-charged before left decided site Blocks = stops before left decided ends.Spent
-charged before left decided site NoRow = stops before left decided ends.Spent
+charged before left decided site effect =
+    afforded before left decided (λ rest. led_by before rest decided site effect) (cost_of_effect effect)
 
--- a step is paid from what is left. Becoming pending costs nothing, and a start costs 1
+-- so is a step
 unfoldable pub paid : {S : Type 0} → S → ℕ → List ℕ → Step S → Move S
-paid before left decided (Waits after addresses) = stops after left (decided ++ addresses) ends.Going
-paid before left decided (Runs numbers site effect) = charged before left (decided ++ numbers) site effect
-paid before left decided Starts =
-    if left == 0 then stops before left decided ends.Spent else Leads before (left - 1) decided
-paid before left decided Lacks = stops before left decided ends.Spent
+paid before left decided (Waits after addresses) = stopped after left (decided ++ addresses) ends.Going
+paid before left decided (Does numbers site effect) = charged before left (decided ++ numbers) site effect
+paid before left decided Starts = afforded before left decided (λ rest. Leads before rest decided) (Some 1)
+paid before left decided Lacks = stopped before left decided ends.Spent
 
-abbrev pub then_on : {S : Type 0} → (S → ℕ → List ℕ → Turned S) → Move S → Turned S
-then_on go (Leads after left decided) = go after left decided
-then_on go (Stops turned) = turned
+abbrev pub continued : {S : Type 0} → (S → ℕ → List ℕ → Turned S) → Move S → Turned S
+continued go (Leads after left decided) = go after left decided
+continued go (Stops turned) = turned
 
 -- the steps of a thread until the turn ends, of which there are at most `most`
-unfoldable pub ran : ℕ → Setting → ℕ → Footprint → ℕ → List ℕ → Turned Footprint
-ran zero setting number footprint left decided =
+unfoldable pub steps_within : ℕ → Setting → ℕ → Footprint → ℕ → List ℕ → Turned Footprint
+steps_within zero setting number footprint left decided =
     record { after = footprint; left = left; decided = decided; end = ends.Spent }
-ran (suc most) setting number footprint left decided =
-    then_on (ran most setting number) (paid footprint left decided (next_step setting number footprint))
+steps_within (suc most) setting number footprint left decided =
+    continued (steps_within most setting number) (paid footprint left decided (next_step setting number footprint))
 
 -- each step that is followed by another costs at least 1
-abbrev pub ran_on : Setting → ℕ → Footprint → ℕ → List ℕ → Turned Footprint
-ran_on setting number footprint left decided = ran (left + 1) setting number footprint left decided
+abbrev pub steps_from : Setting → ℕ → Footprint → ℕ → List ℕ → Turned Footprint
+steps_from setting number footprint left decided = steps_within (left + 1) setting number footprint left decided
 
 -- the turn goes on with its thread's instructions, unless the thread has ended
-abbrev pub put_in : State → ℕ → Turned Footprint → Turned State
-put_in state number turned = record {
+abbrev pub in_state : State → ℕ → Turned Footprint → Turned State
+in_state state number turned = record {
   after = put_back state number turned.after;
   left = turned.left;
   decided = turned.decided;
   end = turned.end;
 }
 
-abbrev pub went_on : Setting → ℕ → State → ℕ → List ℕ → Option Thread → Turned State
-went_on setting number state left decided None =
+abbrev pub rest_of : Setting → ℕ → State → ℕ → List ℕ → Option Thread → Turned State
+rest_of setting number state left decided None =
     record { after = state; left = left; decided = decided; end = ends.Spent }
-went_on setting number state left decided (Some thread) =
+rest_of setting number state left decided (Some thread) =
     if has_ended thread then record { after = state; left = left; decided = decided; end = ends.Going }
-    else put_in state number (ran_on setting number (footprint_of state thread) left decided)
+    else in_state state number (steps_from setting number (footprint_of state thread) left decided)
 
 unfoldable pub rest_of_turn : Setting → ℕ → State → ℕ → List ℕ → Turned State
 rest_of_turn setting number state left decided =
-    went_on setting number state left decided (slice_get state.threads number)
+    rest_of setting number state left decided (slice_get state.threads number)
 
 abbrev pub turn_of : Setting → State → ℕ → ℕ → Option Thread → Turned State
 turn_of setting state number left None =
     record { after = state; left = left; decided = []; end = ends.Spent }
 turn_of setting state number left (Some thread) =
-    then_on (rest_of_turn setting number)
+    continued (rest_of_turn setting number)
     (paid state left [] (first_step setting state number thread thread.pending))
 
 -- the turn of a thread that is enabled, with so many steps left

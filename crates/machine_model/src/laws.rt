@@ -9,15 +9,16 @@ ghost use Rattle.machine_model.specs.HoldLaws.{EndsHaveCauses, HeldThreadWaits};
 ghost use Rattle.machine_model.specs.Job.Alternate.{Not};
 ghost use Rattle.machine_model.specs.JobLaws.{MomentsAreTurns, UnrepeatedIsRun};
 ghost use Rattle.machine_model.specs.JobReplays.{AlternateReplays, PrimaryJobReplays};
-ghost use Rattle.machine_model.specs.Laws.{LargerBudgetKeepsRun, RunIsWithinBudget, RunNeedsNoMore, TurnNeedsNoMore};
+ghost use Rattle.machine_model.specs.Laws.{LargerBudgetKeepsRun, NumbersNeedNoMore, RunIsWithinBudget, RunNeedsNoMore, TurnNeedsNoMore};
 ghost use Rattle.machine_model.specs.MemoryLaws.{DeathKeepsApart, MomentsAreApart, OneHasRange, StoreKeepsApart, StoreKeepsExtents, StoreKeepsOtherBytes, StoredIsLoaded, TurnKeepsApart};
 ghost use Rattle.machine_model.specs.OtherOrder.{HoldTurnsRound, OrderIsTurnedRound};
 ghost use Rattle.machine_model.specs.PendingLaws.{MomentsArePending, StartedArePending, TurnKeepsPending};
 ghost use Rattle.machine_model.specs.PolicyLaws.{ChoiceIsEnabled, ChoiceIsLast, ChoosesUnlessNone, ListedIsChosen, ReleaseKeepsPlace, TakesTurns};
-ghost use Rattle.machine_model.specs.RaceExample.{both_turns, first_turns, leaving_alternate, ordered_alternate, other_order, printed_byte, prints, recorded_order, turned_by_numbers, turned_round, up_to_join};
+ghost use Rattle.machine_model.specs.RaceExample.{both_turns, first_turns, leaving_alternate, ordered_alternate, other_order, printed_byte, recorded_order, turned_by_numbers, turned_round, up_to_join, whole_output};
 ghost use Rattle.machine_model.specs.RepeatLaws.{EarlierTurnIsPower, SamePolicyIsEqual, SameStateIsEqual};
 ghost use Rattle.machine_model.specs.ReplayLaws.{TurnsGiveTheRun};
 ghost use Rattle.machine_model.specs.Setting.{Setting};
+ghost use Rattle.machine_model.specs.ShapeLaws.{CallsHaveShapes, InstructionsHaveShapes, WaitsHaveShapes};
 ghost use Rattle.machine_model.specs.System.{System, machine_of};
 ghost use Rattle.machine_model.specs.SystemLaws.{IsSystem};
 ghost use Rattle.machine_model.specs.WholeAlternate.{AlternateIsWhole};
@@ -46,8 +47,9 @@ pub fn systems_have_laws<S>()
     ensures whole { (system : System S) → IsSystem system → AlternateIsWhole system }
 {}
 
-/// The bounds by which turns and runs are defined are no part of their meaning.
+/// The bounds by which decided numbers, turns and runs are defined are no part of their meaning.
 pub fn bounds_have_no_meaning()
+    ensures numbers { NumbersNeedNoMore }
     ensures turn { TurnNeedsNoMore }
     ensures run { (setting : Setting) → RunNeedsNoMore (machine_of setting) }
 {}
@@ -102,8 +104,8 @@ pub fn hold_enforces_the_order()
     ensures causes { (setting : Setting) → EndsHaveCauses (machine_of setting) }
 {}
 
-/// After a hold that is done the thread that was held is chosen, and does the first access, which the second one
-/// overlaps.
+/// After a hold that is done the thread that was held is chosen, and it still waits to do the first access, which the
+/// second one overlaps.
 pub fn order_is_turned_round()
     ensures { OrderIsTurnedRound }
 {}
@@ -130,6 +132,14 @@ pub fn stored_is_loaded()
 pub fn store_keeps_others()
     ensures extents { StoreKeepsExtents }
     ensures bytes { StoreKeepsOtherBytes }
+{}
+
+/// Whether an instruction or a call traps or waits, what it costs, where it writes and where its thread goes on rest on
+/// its decided numbers alone. What registers, bytes and results hold has a part only in values.
+pub fn shapes_are_decided()
+    ensures instructions { InstructionsHaveShapes }
+    ensures calls { CallsHaveShapes }
+    ensures waits { WaitsHaveShapes }
 {}
 
 /// Live objects don't overlap: where the globals don't, the objects of every moment of a run don't, since stores, the
@@ -163,11 +173,11 @@ pub fn worked_example()
 /// cut. Of the second and the third the other order can't be enforced, since the second thread waits for the
 /// first, or since main returns meanwhile.
 pub fn worked_races()
-    ensures recorded { (input : Input) → recorded_order input both_turns 1000 ≡ record { turns = both_turns; output = prints 66; outcome = Exit 0 } }
-    ensures other { (input : Input) → other_order input both_turns 1000 ≡ Some (record { turns = turned_round; output = prints 65; outcome = Exit 0 }) }
+    ensures recorded { (input : Input) → recorded_order input both_turns 1000 ≡ record { turns = both_turns; output = whole_output 66; outcome = Exit 0 } }
+    ensures other { (input : Input) → other_order input both_turns 1000 ≡ Some (record { turns = turned_round; output = whole_output 65; outcome = Exit 0 }) }
     ensures cut_early { (input : Input) → recorded_order input first_turns 13 ≡ record { turns = up_to_join; output = []; outcome = Spent } }
     ensures cut_late { (input : Input) → recorded_order input first_turns 16 ≡ record { turns = both_turns; output = printed_byte 66; outcome = Spent } }
-    ensures whole { (input : Input) → other_order input first_turns 17 ≡ Some (record { turns = turned_by_numbers; output = prints 65; outcome = Exit 0 }) }
+    ensures whole { (input : Input) → other_order input first_turns 17 ≡ Some (record { turns = turned_by_numbers; output = whole_output 65; outcome = Exit 0 }) }
     ensures stuck { (input : Input) → ordered_alternate input ≡ Not Stuck (0 ∷ 0 ∷ 0 ∷ 1 ∷ 2 ∷ []) }
     ensures ended { (input : Input) → leaving_alternate input ≡ Not Ended (0 ∷ 0 ∷ 0 ∷ 1 ∷ 2 ∷ 0 ∷ []) }
 {}

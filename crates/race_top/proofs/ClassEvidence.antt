@@ -20,7 +20,7 @@ use Rattle.machine_model.specs.declared.run.Reason.{Reason}
 use Rattle.machine_model.specs.declared.run.Run.{Run}
 use Rattle.machine_model.specs.declared.state.OutItem.{OutItem}
 use Rattle.machine_model.specs.Job.{Alternate, AlternateJob, PrimaryJob}
-use Rattle.machine_model.specs.Job.Alternate.{Runs, Not, Absent}
+use Rattle.machine_model.specs.Job.Alternate.{Ran, Not, Absent}
 use Rattle.machine_model.specs.Reach.{Reaches}
 use Rattle.race_verdict.specs.declared.result.JobKind.{JobKind}
 use Rattle.race_verdict.specs.declared.result.JobKind.TheVariants as kinds
@@ -30,7 +30,7 @@ use Rattle.race_verdict.specs.declared.result.Judged.TheVariants.{Admitted, Neve
 use Rattle.race_verdict.specs.declared.verdict.HarmlessRun.{HarmlessRun}
 use Rattle.race_verdict.specs.declared.verdict.Verdict.{Verdict}
 use Rattle.race_verdict.specs.declared.verdict.Verdict.TheVariants.{SpecViolated, SingleOrdering, OutputDiffers, Unresolved, Harmless}
-use Rattle.race_verdict.specs.Verdict.{VerdictOf, difference, distinct, exits, violates}
+use Rattle.race_verdict.specs.Verdict.{VerdictOf, difference, distinct, is_exit, violates}
 use Rattle.race_top.specs.AnalyserPool.{job_numbers, jobs_of, judged_of, kind_of, results_of, same_output}
 use Rattle.race_top.specs.Evidence.{BothExit, ClassesHaveEvidence, IsInputOf, IsRunOfJob, RaceHasEvidence, ShowsAdmitted}
 use Rattle.race_top.proofs.JobResults.{jobs-asked}
@@ -63,7 +63,7 @@ ending run outcome = record run { outcome = outcome }
 -- how an alternate is judged: where both runs exit, by whether they print the same
 abbrev judged_by : Input → Outcome → Outcome → Bool → Judged
 judged_by input one two same =
-    cond (exits one && exits two) (cond same (Admitted input) Never) NotJudged
+    cond (is_exit one && is_exit two) (cond same (Admitted input) Never) NotJudged
 
 module _ (code : Module) (case : Case) (race : Race) where
   -- the jobs of the recorded path are these
@@ -71,7 +71,7 @@ module _ (code : Module) (case : Case) (race : Race) where
   IsPrimary primary = PrimaryJob code case case.input ≡ primary
 
   abbrev IsAlternate : Run → Type 0
-  IsAlternate alternate = AlternateJob code case race case.input ≡ Runs alternate
+  IsAlternate alternate = AlternateJob code case race case.input 1 ≡ Ran alternate
 
   abbrev Has : Verdict → Type 0
   Has = RaceHasEvidence code case race
@@ -100,15 +100,15 @@ module _ (code : Module) (case : Case) (race : Race) where
 
   -- both jobs exit
   both-exit : (primary alternate : Run) → IsPrimary primary → IsAlternate alternate →
-      IsTrue (exits primary.outcome) → IsTrue (exits alternate.outcome) → BothExit (jobs_of code case race) 1 case.input alternate
+      IsTrue (is_exit primary.outcome) → IsTrue (is_exit alternate.outcome) → BothExit (jobs_of code case race) 1 case.input alternate
   both-exit primary alternate first second one two = record {
     second = second;
-    first_exits = ap (λ (run : Run). exits run.outcome) first ∙ one;
+    first_exits = ap (λ (run : Run). is_exit run.outcome) first ∙ one;
     second_exits = two;
   }
 
   differing : (primary alternate : Run) → IsPrimary primary → IsAlternate alternate →
-      IsTrue (exits primary.outcome) → IsTrue (exits alternate.outcome) → alternate.output ≢ primary.output →
+      IsTrue (is_exit primary.outcome) → IsTrue (is_exit alternate.outcome) → alternate.output ≢ primary.output →
       Has
       (OutputDiffers 0 1 case.input primary.turns primary.output alternate.turns alternate.output)
   differing primary alternate first second one two differ = record {
@@ -134,11 +134,11 @@ module _ (code : Module) (case : Case) (race : Race) where
     admitted = case.input;
   }
 
-  same-turns : (one other : Run) → Runs one ≡ Runs other → one.turns ≡ other.turns
+  same-turns : (one other : Run) → Ran one ≡ Ran other → one.turns ≡ other.turns
   same-turns one other same = let equal : one ≡ other = cc in ap (λ (run : Run). run.turns) equal
 
   admitted : (primary alternate : Run) → IsPrimary primary → IsAlternate alternate →
-      IsTrue (exits primary.outcome) → IsTrue (exits alternate.outcome) → primary.output ≡ alternate.output →
+      IsTrue (is_exit primary.outcome) → IsTrue (is_exit alternate.outcome) → primary.output ≡ alternate.output →
       Has (Harmless (one_run alternate ∷ []))
   unfolding distinct
   admitted primary alternate first second one two same = record {
@@ -163,14 +163,14 @@ module _ (code : Module) (case : Case) (race : Race) where
     );
   }
 
-  reasoned : (reason : Reason) (turns : List ℕ) → AlternateJob code case race case.input ≡ Not reason turns →
+  reasoned : (reason : Reason) (turns : List ℕ) → AlternateJob code case race case.input 1 ≡ Not reason turns →
       Has (SingleOrdering reason turns)
   reasoned reason turns second =
       record { input = case.input; is_listed = (1, omega arith, refl); on_path = refl; answers = second }
 
   -- where the hold gives a reason, the class is the primary's violation or that reason
   held : (primary : Run) (one : Outcome) (reason : Reason) (turns : List ℕ) → IsPrimary (ending primary one) →
-      AlternateJob code case race case.input ≡ Not reason turns →
+      AlternateJob code case race case.input 1 ≡ Not reason turns →
       Has (VerdictOf (results case.input (ending primary one) (kinds.Not reason turns) NotJudged))
   unfolding VerdictOf
   held primary (Exit status) reason turns first second = reasoned reason turns second
@@ -215,22 +215,22 @@ module _ (code : Module) (case : Case) (race : Race) where
   ran primary alternate Spent Spent same first second prints = spent 0 primary (primary-job first)
 
   -- an alternate of a race that the primary reaches is not absent
-  present : Reaches code case race case.input ≡ true → kind_of (AlternateJob code case race case.input) ≢ kinds.Absent
+  present : Reaches code case race case.input ≡ true → kind_of (AlternateJob code case race case.input 1) ≢ kinds.Absent
   unfolding results_of
   present reaches = (jobs-asked code case race reaches).recorded
       (record {
         path = 0;
         schedule = 1;
         input = case.input;
-        kind = kind_of (AlternateJob code case race case.input);
-        judged = judged_of case.input (PrimaryJob code case case.input) (AlternateJob code case race case.input);
+        kind = kind_of (AlternateJob code case race case.input 1);
+        judged = judged_of case.input (PrimaryJob code case case.input) (AlternateJob code case race case.input 1);
       }) (1, omega arith, refl) refl
 
   shown : (primary : Run) (alternate : Alternate) → IsPrimary primary →
-      AlternateJob code case race case.input ≡ alternate → kind_of alternate ≢ kinds.Absent →
+      AlternateJob code case race case.input 1 ≡ alternate → kind_of alternate ≢ kinds.Absent →
       Has
       (VerdictOf (results case.input primary (kind_of alternate) (judged_of case.input primary alternate)))
-  shown primary (Runs run) first second some =
+  shown primary (Ran run) first second some =
       ran primary run primary.outcome run.outcome (same_output primary.output run.output) first second
       (output-decides primary.output run.output)
   shown primary (Not reason turns) first second some = held primary primary.outcome reason turns first second
@@ -239,5 +239,5 @@ module _ (code : Module) (case : Case) (race : Race) where
 pub classes-shown : ClassesHaveEvidence
 unfolding results_of
 classes-shown code case pair race is =
-    shown code case race (PrimaryJob code case case.input) (AlternateJob code case race case.input) refl refl
+    shown code case race (PrimaryJob code case case.input) (AlternateJob code case race case.input 1) refl refl
     (present code case race (recorded-run-reaches code case pair race is))

@@ -9,12 +9,12 @@ use Rattle.machine_model.specs.declared.run.Outcome.{Outcome}
 use Rattle.machine_model.specs.declared.run.Outcome.TheVariants as outcomes
 use Rattle.machine_model.specs.declared.state.State.{State}
 use Rattle.machine_model.specs.Hold.{Held, held_after, held_from, held_over}
-use Rattle.machine_model.specs.Hold.Held.{Ran}
+use Rattle.machine_model.specs.Hold.Held.{RunOver}
 use Rattle.machine_model.specs.Moment.{Moment, access_at}
 use Rattle.machine_model.specs.Policy.{Choice, choose}
 use Rattle.machine_model.specs.Reach.{does_second, is_second}
 use Rattle.machine_model.specs.Repeat.{Snapshot}
-use Rattle.machine_model.specs.Run.{Advance, Course, advanced_with, told}
+use Rattle.machine_model.specs.Run.{Advance, Course, advanced_with, concluded}
 use Rattle.machine_model.specs.System.{System}
 use Rattle.race_top.specs.declared.order_enforcer.hold.Enforced.{Enforced}
 use Rattle.race_top.specs.declared.order_enforcer.hold.Enforced.TheVariants as answers
@@ -27,7 +27,7 @@ and-true one other is = rw is refl
 
 -- a run that ends otherwise than by an exit is what the hold leaves
 pub over-ran : {S : Type 0} (system : System S) (last : Course S) (outcome : Outcome) →
-    ((status : ℕ) → outcome ≡ outcomes.Exit status → ⊥) → held_over system last outcome ≡ Ran (told system last outcome)
+    ((status : ℕ) → outcome ≡ outcomes.Exit status → ⊥) → held_over system last outcome ≡ RunOver (concluded system last outcome)
 over-ran system last (outcomes.Exit status) never = absurd (never status refl)
 over-ran system last (outcomes.Trap trap thread site) never = refl
 over-ran system last outcomes.Deadlock never = refl
@@ -77,7 +77,7 @@ hold-leads from most rest past course advance held count is leads =
 pub hold-spent : {S : Type 0} (most : ℕ) (system : System S) (listed : List ℕ) (race : Race) (first : Access)
     (past : List (Snapshot S))
     (course : Course S) (held : Held S) → most ≡ 0 → held ≡ held_from most system listed race first past course →
-    held ≡ Ran (told system course outcomes.Spent)
+    held ≡ RunOver (concluded system course outcomes.Spent)
 unfolding held_from
 hold-spent zero system listed race first past course held none is = is
 hold-spent (suc most) system listed race first past course held none is = absurd (omega arith)

@@ -11,8 +11,8 @@ use Rattle.machine_model.specs.declared.run.Run.{Run}
 use Rattle.machine_model.specs.declared.state.State.{State}
 use Rattle.machine_model.specs.Begun.{Begun, begun_after}
 use Rattle.machine_model.specs.Begun.Begun.{Complete, NotBegun, Ready}
-use Rattle.machine_model.specs.Job.{Alternate, AlternateJob, HeldOn, HoldPoint, PrimaryJob, alternate_from, held_on, hold_point, point_in}
-use Rattle.machine_model.specs.Job.Alternate.{Runs, Not, Absent}
+use Rattle.machine_model.specs.Job.{Alternate, AlternateJob, hold_of, HoldPoint, PrimaryJob, alternate_from, hold_at, point_of, point_in}
+use Rattle.machine_model.specs.Job.Alternate.{Ran, Not, Absent}
 use Rattle.machine_model.specs.Moment.{Moment, access_at}
 use Rattle.machine_model.specs.Primary.{setting_of}
 use Rattle.machine_model.specs.Reach.{Reaches, from_first, primary_moments, reaches_after, reaches_from}
@@ -22,7 +22,7 @@ use Rattle.race_verdict.specs.declared.result.JobKind.TheVariants as kinds
 use Rattle.race_verdict.specs.declared.result.JobResult.{JobResult}
 use Rattle.race_verdict.specs.declared.result.Judged.TheVariants.{Admitted, Never, NotJudged}
 use Rattle.race_verdict.specs.Results.{AreResults, IsRan, job_of}
-use Rattle.race_verdict.specs.Verdict.{exits, run_that}
+use Rattle.race_verdict.specs.Verdict.{is_exit, run_that}
 use Rattle.race_top.specs.AnalyserPool.{judged_of, kind_of, results_of, same_output}
 
 -- an element of a list of two is one of them
@@ -51,41 +51,41 @@ point-from system race moments (moment ∷ later) reaches none =
     point-after system race moments later moment (access_at system moment) refl reaches none
 
 point-reached : (code : Module) (case : Case) (race : Race) (input : Input) → Reaches code case race input ≡ true →
-    hold_point code case race input ≢ None
-unfolding Reaches hold_point
+    point_of code case race input ≢ None
+unfolding Reaches point_of
 point-reached code case race input reaches =
     point-from (machine_of (setting_of code case input)) race (primary_moments code case input)
     (from_first race (primary_moments code case input)) reaches
 
 -- and so its alternate is not absent
-from-begun : {S : Type 0} (system : System S) (listed : List ℕ) (begun : Begun S) →
-    alternate_from system listed (Some begun) ≢ Absent
-from-begun system listed (Ready past course) absent = let h : ⊥ = cc in h
-from-begun system listed (NotBegun reason course) absent = let h : ⊥ = cc in h
-from-begun system listed (Complete run) absent = let h : ⊥ = cc in h
+from-begun : {S : Type 0} (system : System S) (listed : List ℕ) (schedule : ℕ) (begun : Begun S) →
+    alternate_from system listed schedule (Some begun) ≢ Absent
+from-begun system listed schedule (Ready past course) absent = let h : ⊥ = cc in h
+from-begun system listed schedule (NotBegun reason course) absent = let h : ⊥ = cc in h
+from-begun system listed schedule (Complete run) absent = let h : ⊥ = cc in h
 
 present : (code : Module) (case : Case) (race : Race) (input : Input) → Reaches code case race input ≡ true →
-    AlternateJob code case race input ≢ Absent
-unfolding HeldOn
-present code case race input reaches = go (hold_point code case race input) refl
+    AlternateJob code case race input 1 ≢ Absent
+unfolding hold_of
+present code case race input reaches = go (point_of code case race input) refl
   where
     system : System State
     system = machine_of (setting_of code case input)
 
-    go : (point : Option (HoldPoint State)) → hold_point code case race input ≡ point →
-        AlternateJob code case race input ≢ Absent
+    go : (point : Option (HoldPoint State)) → point_of code case race input ≡ point →
+        AlternateJob code case race input 1 ≢ Absent
     go None is absent = point-reached code case race input reaches is
     go (Some point) is absent =
-        from-begun system case.turns (begun_after system case.turns race (held_on system case.turns race point))
+        from-begun system case.turns 1 (begun_after system case.turns race (hold_at system case.turns race point))
         (rw (reaches, is) at absent)
 
 kind-present : (alternate : Alternate) → alternate ≢ Absent → kind_of alternate ≢ kinds.Absent
-kind-present (Runs run) some absent = let h : ⊥ = cc in h
+kind-present (Ran run) some absent = let h : ⊥ = cc in h
 kind-present (Not reason turns) some absent = let h : ⊥ = cc in h
 kind-present Absent some absent = some refl
 
 kind-unskipped : (alternate : Alternate) → kind_of alternate ≢ kinds.Skipped
-kind-unskipped (Runs run) skipped = let h : ⊥ = cc in h
+kind-unskipped (Ran run) skipped = let h : ⊥ = cc in h
 kind-unskipped (Not reason turns) skipped = let h : ⊥ = cc in h
 kind-unskipped Absent skipped = let h : ⊥ = cc in h
 
@@ -93,19 +93,19 @@ not-run : (kind : JobKind) (reason : Reason) (turns : List ℕ) → kind ≡ kin
 not-run kind reason turns is run = let same = run.1 in let h : ⊥ = cc in h
 
 -- two runs that exit are judged
-judged-exits : (input : Input) (primary run : Run) (one two same : Bool) → exits primary.outcome ≡ one →
-    exits run.outcome ≡ two → same_output primary.output run.output ≡ same →
+judged-is_exit : (input : Input) (primary run : Run) (one two same : Bool) → is_exit primary.outcome ≡ one →
+    is_exit run.outcome ≡ two → same_output primary.output run.output ≡ same →
     IsSome (cond one (Some primary) None) → IsSome (cond two (Some run) None) →
     cond (one && two) (cond same (Admitted input) Never) NotJudged ≢ NotJudged
-judged-exits input primary run true true true first second third there again none = let h : ⊥ = cc in h
-judged-exits input primary run true true false first second third there again none = let h : ⊥ = cc in h
-judged-exits input primary run true false same first second third there again none = let h : ⊥ = cc in h
-judged-exits input primary run false two same first second third there again none = let h : ⊥ = cc in h
+judged-is_exit input primary run true true true first second third there again none = let h : ⊥ = cc in h
+judged-is_exit input primary run true true false first second third there again none = let h : ⊥ = cc in h
+judged-is_exit input primary run true false same first second third there again none = let h : ⊥ = cc in h
+judged-is_exit input primary run false two same first second third there again none = let h : ⊥ = cc in h
 
-judged-both : (input : Input) (primary : Run) (alternate : Alternate) → IsSome (run_that exits (kinds.Ran primary)) →
-    IsSome (run_that exits (kind_of alternate)) → judged_of input primary alternate ≢ NotJudged
-judged-both input primary (Runs run) there again none =
-    judged-exits input primary run (exits primary.outcome) (exits run.outcome) (same_output primary.output run.output)
+judged-both : (input : Input) (primary : Run) (alternate : Alternate) → IsSome (run_that is_exit (kinds.Ran primary)) →
+    IsSome (run_that is_exit (kind_of alternate)) → judged_of input primary alternate ≢ NotJudged
+judged-both input primary (Ran run) there again none =
+    judged-is_exit input primary run (is_exit primary.outcome) (is_exit run.outcome) (same_output primary.output run.output)
     refl refl refl there again none
 judged-both input primary (Not reason turns) there again none = let h : ⊥ = cc in h
 judged-both input primary Absent there again none = let h : ⊥ = cc in h
@@ -179,8 +179,8 @@ results-asked input primary alternate some = record {
       (sym enforced ∙ ap (λ (it : JobResult). it.kind) (second-is one among are.0 ∙ sym (second-is other later are.1)) ∙ again);
   judged = λ first second among later are there again none.
       judged-both input primary alternate
-      (subst (λ (kind : JobKind). IsSome (run_that exits kind)) (ap (λ (it : JobResult). it.kind) (first-is first among are.0)) there)
-      (subst (λ (kind : JobKind). IsSome (run_that exits kind)) (ap (λ (it : JobResult). it.kind) (second-is second later are.1)) again)
+      (subst (λ (kind : JobKind). IsSome (run_that is_exit kind)) (ap (λ (it : JobResult). it.kind) (first-is first among are.0)) there)
+      (subst (λ (kind : JobKind). IsSome (run_that is_exit kind)) (ap (λ (it : JobResult). it.kind) (second-is second later are.1)) again)
       (sym (ap (λ (it : JobResult). it.judged) (second-is second later are.1)) ∙ none);
   skipped = λ result among skipped. absurd (unskipped input primary alternate result (member result among) skipped);
 }
@@ -204,5 +204,5 @@ pub jobs-asked : (code : Module) (case : Case) (race : Race) → Reaches code ca
     AreResults 1 1 (results_of code case race)
 unfolding results_of
 jobs-asked code case race reaches =
-    results-asked case.input (PrimaryJob code case case.input) (AlternateJob code case race case.input)
+    results-asked case.input (PrimaryJob code case case.input) (AlternateJob code case race case.input 1)
     (present code case race case.input reaches)

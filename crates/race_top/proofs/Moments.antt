@@ -7,7 +7,7 @@ use Rattle.machine_model.specs.declared.run.TurnEnd.{TurnEnd}
 use Rattle.machine_model.specs.declared.run.TurnEnd.TheVariants as ends
 use Rattle.machine_model.specs.Moment.{Moment, moments_from, moments_of, moments_with, onward_or_none}
 use Rattle.machine_model.specs.Policy.{Choice, Policy, choose}
-use Rattle.machine_model.specs.Run.{Advance, Course, advanced, advanced_by, advanced_with, after_turn, begun}
+use Rattle.machine_model.specs.Run.{Advance, Course, advanced, advanced_by, advanced_with, after_turn, first_course}
 use Rattle.machine_model.specs.Run.Advance.{Onward, Over}
 use Rattle.machine_model.specs.System.{System}
 use Rattle.race_top.specs.Seen.{threads_of}
@@ -60,10 +60,10 @@ threads_of-next start turns moments i moment rest is taken =
     ∙ ap (λ back. start ++ back)
     (sym (map_push (λ one. one.thread) (take i moments) moment) ∙ ap threads_of (sym (take-next moments i moment rest is)))
 
-pub moments-begun : {S : Type 0} (most : ℕ) (system : System S) (listed : List ℕ) (steps : ℕ) (course : Course S) →
-    most ≡ steps + 1 → course ≡ begun system steps → moments_from most system listed course ≡ moments_of system listed steps
+pub moments-first_course : {S : Type 0} (most : ℕ) (system : System S) (listed : List ℕ) (steps : ℕ) (course : Course S) →
+    most ≡ steps + 1 → course ≡ first_course system steps → moments_from most system listed course ≡ moments_of system listed steps
 unfolding moments_of
-moments-begun most system listed steps course all is = rw (all, is) refl
+moments-first_course most system listed steps course all is = rw (all, is) refl
 
 -- a turn with which the run goes on
 pub record Turned {S : Type 0} (go : Course S → List (Moment S)) (system : System S) (course next : Course S) (chosen : Option Choice) : Type 0 where

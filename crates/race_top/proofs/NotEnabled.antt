@@ -10,7 +10,7 @@ use Rattle.machine_model.specs.declared.run.TurnEnd.{TurnEnd}
 use Rattle.machine_model.specs.declared.run.TurnEnd.TheVariants as ends
 use Rattle.machine_model.specs.Policy.{Choice, choose}
 use Rattle.machine_model.specs.ReplayLaws.{course_after, onward_from}
-use Rattle.machine_model.specs.Run.{Course, advanced, advanced_by, advanced_with, after_turn, begun, onward_or_told, run_from, run_of}
+use Rattle.machine_model.specs.Run.{Course, advanced, advanced_by, advanced_with, after_turn, first_course, onward_or_concluded, run_from, run_of}
 use Rattle.machine_model.specs.System.{System}
 use Rattle.machine_model.proofs.Replays.{Chooser, Continues, IsAt, chosen-begins, follows-next, may-choose, mode-stays, next-in, run_from-begins, slice_get-after}
 use Rattle.race_top.specs.TraceReplay.{ReplayFault, fault_at_end, fault_from, first_other, replay_fault}
@@ -78,14 +78,14 @@ here : {S : Type 0} → Chooser → (go : Course S → Run) (system : System S) 
     choose listed course.policy (system.enabled course.state) ≡ one →
     IsAt course.policy (length course.turns) → Continues go →
     listed ≡ course.turns ++ thread ∷ listed_rest →
-    (onward_or_told system go (advanced_with system course one)).turns ≡ course.turns ++ taken ∷ taken_rest →
+    (onward_or_concluded system go (advanced_with system course one)).turns ≡ course.turns ++ taken ∷ taken_rest →
     Contains (system.enabled course.state) thread → thread ≡ taken
 here laws go system listed course None thread taken listed_rest taken_rest picked at continues listed_is taken_is among =
     absurd (no_longer course.turns taken taken_rest taken_is)
 here laws go system listed course (Some choice) thread taken listed_rest taken_rest picked at continues listed_is taken_is among =
     let begins = chosen-begins go system course choice continues in
     let first = next-in course.turns choice.thread _ begins.0 begins.1 in
-    let second : slice_get (onward_or_told system go (advanced_with system course (Some choice))).turns (length course.turns) ≡ Some taken =
+    let second : slice_get (onward_or_concluded system go (advanced_with system course (Some choice))).turns (length course.turns) ≡ Some taken =
     rw taken_is (slice_get-after course.turns taken taken_rest) in
     let next : slice_get listed course.policy.follow.position ≡ Some thread =
     rw (at.1, listed_is) (slice_get-after course.turns thread listed_rest) in
@@ -103,7 +103,7 @@ too_long front one first taken common rest same =
 by_end : {S : Type 0} (go : Course S → Run) (after : Course S → Course S) (system : System S)
     (course next : Course S) (end : TurnEnd)
     (thread taken one first : ℕ) (common taken_rest : List ℕ) → next.turns ≡ course.turns ++ one ∷ [] →
-    (onward_or_told system go (advanced_by one next end)).turns ≡ course.turns ++ first ∷ (common ++ taken ∷ taken_rest) →
+    (onward_or_concluded system go (advanced_by one next end)).turns ≡ course.turns ++ first ∷ (common ++ taken ∷ taken_rest) →
     ((go next).turns ≡ course.turns ++ first ∷ (common ++ taken ∷ taken_rest) →
     Contains (system.enabled (after next).state) thread → thread ≡ taken) →
     Contains (system.enabled (onward_from after course (advanced_by one next end)).state) thread → thread ≡ taken
@@ -122,7 +122,7 @@ further : {S : Type 0} → Chooser → (go : Course S → Run) (after : Course S
     choose listed course.policy (system.enabled course.state) ≡ one →
     IsAt course.policy (length course.turns) → Continues go →
     listed ≡ course.turns ++ first ∷ (common ++ thread ∷ listed_rest) →
-    (onward_or_told system go (advanced_with system course one)).turns ≡ course.turns ++ first ∷ (common ++ taken ∷ taken_rest) →
+    (onward_or_concluded system go (advanced_with system course one)).turns ≡ course.turns ++ first ∷ (common ++ taken ∷ taken_rest) →
     ((next : Course S) → IsAt next.policy (length next.turns) →
     listed ≡ next.turns ++ (common ++ thread ∷ listed_rest) → (go next).turns ≡ next.turns ++ (common ++ taken ∷ taken_rest) →
     Contains (system.enabled (after next).state) thread → thread ≡ taken) →
@@ -132,7 +132,7 @@ further laws go after system listed course None thread taken first common listed
 further laws go after system listed course (Some choice) thread taken first common listed_rest taken_rest picked at continues listed_is taken_is on =
     let begins = chosen-begins go system course choice continues in
     let chosen_one = next-in course.turns choice.thread _ begins.0 begins.1 in
-    let first_one : slice_get (onward_or_told system go (advanced_with system course (Some choice))).turns (length course.turns) ≡ Some first =
+    let first_one : slice_get (onward_or_concluded system go (advanced_with system course (Some choice))).turns (length course.turns) ≡ Some first =
     rw taken_is (slice_get-after course.turns first (common ++ taken ∷ taken_rest)) in
     let same : first ≡ choice.thread = cc in
     let next_listed : slice_get listed course.policy.follow.position ≡ Some choice.thread =
@@ -187,9 +187,9 @@ not-at_end listed taken turn (outcomes.Repeats later earlier) = other-fault _ _ 
 not-at_end listed taken turn outcomes.Spent = other-fault _ _ _ (λ same. cc)
 
 refused-at : {S : Type 0} → Chooser → (most : ℕ) (system : System S) (listed : List ℕ) (steps before thread : ℕ) →
-    Parts listed (run_from most system listed (begun system steps)).turns before →
+    Parts listed (run_from most system listed (first_course system steps)).turns before →
     slice_get listed before ≡ Some thread →
-    Contains (system.enabled (course_after before system listed (begun system steps)).state) thread → ⊥
+    Contains (system.enabled (course_after before system listed (first_course system steps)).state) thread → ⊥
 refused-at laws most system listed steps before thread apart next among =
     let listed_one : slice_get listed before ≡ Some apart.thread =
     ap (λ whole. slice_get whole before) apart.listed_is
@@ -197,23 +197,23 @@ refused-at laws most system listed steps before thread apart next among =
     ∙ slice_get-after apart.front apart.thread apart.listed_rest in
     let same : thread ≡ apart.thread = cc in
     let At : ℕ → ℕ → Type 0 =
-    λ count one. Contains (system.enabled (course_after count system listed (begun system steps)).state) one in
+    λ count one. Contains (system.enabled (course_after count system listed (first_course system steps)).state) one in
     apart.apart
     (walk laws apart.front most system listed apart.thread apart.taken apart.listed_rest apart.taken_rest
-    (begun system steps) (refl, refl) apart.listed_is apart.taken_is
+    (first_course system steps) (refl, refl) apart.listed_is apart.taken_is
     (subst (λ (count : ℕ). At count apart.thread) (sym apart.count) (subst (At before) same among)))
 
 refused-by : {S : Type 0} → Chooser → (most : ℕ) (system : System S) (listed : List ℕ) (steps before thread : ℕ)
     (other : Option ℕ) →
-    first_other listed (run_from most system listed (begun system steps)).turns ≡ other →
-    fault_from listed (run_from most system listed (begun system steps)) other ≡ Some (TurnNotEnabled (before + 1)) →
+    first_other listed (run_from most system listed (first_course system steps)).turns ≡ other →
+    fault_from listed (run_from most system listed (first_course system steps)) other ≡ Some (TurnNotEnabled (before + 1)) →
     slice_get listed before ≡ Some thread →
-    Contains (system.enabled (course_after before system listed (begun system steps)).state) thread → ⊥
+    Contains (system.enabled (course_after before system listed (first_course system steps)).state) thread → ⊥
 refused-by laws most system listed steps before thread None is refused next among =
-    let run = run_from most system listed (begun system steps) in
+    let run = run_from most system listed (first_course system steps) in
     not-at_end listed (length run.turns) (before + 1) run.outcome refused
 refused-by laws most system listed steps before thread (Some place) is refused next among =
-    let turns = (run_from most system listed (begun system steps)).turns in
+    let turns = (run_from most system listed (first_course system steps)).turns in
     let injected : place + 1 ≡ before + 1 = cc in
     let at = found _ _ place is in
     refused-at laws most system listed steps before thread
@@ -222,7 +222,7 @@ refused-by laws most system listed steps before thread (Some place) is refused n
 pub refused-not_enabled : {S : Type 0} → Chooser → (system : System S) (listed : List ℕ) (steps before thread : ℕ) →
     replay_fault listed (run_of system listed steps) ≡ Some (TurnNotEnabled (before + 1)) →
     slice_get listed before ≡ Some thread →
-    ¬ Contains (system.enabled (course_after before system listed (begun system steps)).state) thread
+    ¬ Contains (system.enabled (course_after before system listed (first_course system steps)).state) thread
 unfolding replay_fault run_of
 refused-not_enabled laws system listed steps before thread refused next =
     refused-by laws (steps + 1) system listed steps before thread _ refl refused next

@@ -6,7 +6,7 @@ use Rattle.machine_model.specs.declared.state.State.{State}
 use Rattle.machine_model.specs.Repeat.{Snapshot, power_within, repeats, same_snapshot}
 use Rattle.machine_model.specs.System.{System}
 use Rattle.race_top.specs.declared.order_enforcer.past.Past.{Past}
-use Rattle.race_top.specs.Past.{Recalls, snapshot_of}
+use Rattle.race_top.specs.Past.{Recalls, kept_snapshot}
 
 slice_get-last : (snapshots : List (Snapshot State)) (now : Snapshot State) →
     slice_get (snapshots ++ now ∷ []) (length snapshots) ≡ Some now
@@ -51,7 +51,7 @@ power_within-some (suc turns) some = omega arith
 pub recalls-kept : (snapshots : List (Snapshot State)) (now : Snapshot State) (before after : Past) →
     Recalls snapshots before →
     after.turns ≡ before.turns + 1 → 2 * before.earlier ≤ after.turns → after.earlier ≡ after.turns →
-    snapshot_of after ≡ now → Recalls (snapshots ++ now ∷ []) after
+    kept_snapshot after ≡ now → Recalls (snapshots ++ now ∷ []) after
 recalls-kept snapshots now before after recalls counted reached earlier is = record {
   turns = omega (arith, length-append snapshots (now ∷ []), recalls.turns);
   earlier = earlier ∙ sym (power_within-reached before.turns after.turns counted (rw recalls.earlier at reached));
@@ -64,7 +64,7 @@ recalls-kept snapshots now before after recalls counted reached earlier is = rec
 pub recalls-passed : (snapshots : List (Snapshot State)) (now : Snapshot State) (before after : Past) →
     Recalls snapshots before →
     after.turns ≡ before.turns + 1 → after.turns < 2 * before.earlier → after.earlier ≡ before.earlier →
-    snapshot_of after ≡ snapshot_of before → Recalls (snapshots ++ now ∷ []) after
+    kept_snapshot after ≡ kept_snapshot before → Recalls (snapshots ++ now ∷ []) after
 recalls-passed snapshots now before after recalls counted beyond earlier is = record {
   turns = omega (arith, length-append snapshots (now ∷ []), recalls.turns);
   earlier = earlier ∙ recalls.earlier
@@ -72,7 +72,7 @@ recalls-passed snapshots now before after recalls counted beyond earlier is = re
   kept = λ some.
       let began : 0 < before.turns = power_within-some before.turns (omega (arith, recalls.earlier)) in
       rw (earlier, is)
-      (slice_get-front snapshots (now ∷ []) before.earlier (snapshot_of before) (recalls.kept began));
+      (slice_get-front snapshots (now ∷ []) before.earlier (kept_snapshot before) (recalls.kept began));
 }
 
 -- after the first turn nothing is compared
@@ -86,7 +86,7 @@ repeats-none system snapshots past now recalls none =
 -- after another turn it is what is kept
 pub repeats-kept : (system : System State) (snapshots : List (Snapshot State)) (past : Past)
     (now : Snapshot State) → Recalls snapshots past →
-    0 < past.turns → repeats system snapshots now ≡ same_snapshot system (snapshot_of past) now
+    0 < past.turns → repeats system snapshots now ≡ same_snapshot system (kept_snapshot past) now
 unfolding repeats
 repeats-kept system snapshots past now recalls some =
     let more : nat_lt 1 (length snapshots) ≡ true = lt-ltb _ _ (omega (arith, recalls.turns)) in

@@ -7,12 +7,12 @@ use Rattle.ir_types.specs.declared.«module».Module.{Module}
 use Rattle.machine_model.specs.declared.case.Case.{Case}
 use Rattle.machine_model.specs.declared.race.Race.{Race}
 use Rattle.machine_model.specs.declared.state.State.{State}
-use Rattle.machine_model.specs.Job.{hold_point, point_at, point_in, snapshots}
+use Rattle.machine_model.specs.Job.{point_of, point_at, point_in, snapshots}
 use Rattle.machine_model.specs.Moment.{Moment, access_at, from_turn}
 use Rattle.machine_model.specs.Policy.{Choice, Policy}
 use Rattle.machine_model.specs.Primary.{setting_of}
 use Rattle.machine_model.specs.Reach.{from_first, primary_moments}
-use Rattle.machine_model.specs.Repeat.{Snapshot, snapshot}
+use Rattle.machine_model.specs.Repeat.{Snapshot, snapshot_of}
 use Rattle.machine_model.specs.System.{machine_of}
 use Rattle.concrete_machine.specs.declared.course.Course.{Course}
 use Rattle.concrete_machine.specs.Course.{IsOf}
@@ -24,8 +24,8 @@ use Rattle.race_top.proofs.Moments.{take-next}
 -- where no moment from the race's first access on is left, there is none
 pub point-none : (code : Module) (case : Case) (race : Race) (input : Input) (number : ℕ) (left : List (Moment State)) →
     left ≡ [] → from_turn race.t1 number left ≡ from_first race (primary_moments code case input) →
-    hold_point code case race input ≡ None
-unfolding hold_point
+    point_of code case race input ≡ None
+unfolding point_of
 point-none code case race input number left none from =
     let end : from_first race (primary_moments code case input) ≡ [] =
     sym from ∙ ap (from_turn race.t1 number) none in
@@ -34,20 +34,20 @@ point-none code case race input number left none from =
 -- the snapshots of one moment more
 pub snapshots-next : (moments : List (Moment State)) (i : ℕ) (moment : Moment State) (rest : List (Moment State)) →
     drop i moments ≡ moment ∷ rest →
-    snapshots (take (i + 1) moments) ≡ snapshots (take i moments) ++ snapshot moment.before ∷ []
+    snapshots (take (i + 1) moments) ≡ snapshots (take i moments) ++ snapshot_of moment.before ∷ []
 snapshots-next moments i moment rest is =
     ap snapshots (take-next moments i moment rest is)
-    ∙ map_push (λ one. snapshot one.before) (take i moments) moment
+    ∙ map_push (λ one. snapshot_of one.before) (take i moments) moment
 
 -- where the next moment is the race's, its course is the hold point's
 pub point-here : (code : Module) (case : Case) (race : Race) (input : Input) (i : ℕ) (moment : Moment State)
     (rest : List (Moment State)) →
     drop i (primary_moments code case input) ≡ moment ∷ rest →
     moment ∷ rest ≡ from_first race (primary_moments code case input) →
-    hold_point code case race input
-    ≡ point_at (snapshots (take i (primary_moments code case input)) ++ snapshot moment.before ∷ []) moment
+    point_of code case race input
+    ≡ point_at (snapshots (take i (primary_moments code case input)) ++ snapshot_of moment.before ∷ []) moment
     (access_at (machine_of (setting_of code case input)) moment)
-unfolding hold_point
+unfolding point_of
 point-here code case race input i moment rest is from =
     let moments = primary_moments code case input in
     let system = machine_of (setting_of code case input) in
@@ -76,6 +76,6 @@ point-of code case (Some point) course of is = subst (IsOf code case) (sym is) o
 pub Recalls-next : (moments : List (Moment State)) (i : ℕ) (moment : Moment State) (rest : List (Moment State))
     (now : Snapshot State) (past : Past) →
     drop i moments ≡ moment ∷ rest →
-    Recalls ((snapshots (take i moments) ++ snapshot moment.before ∷ []) ++ now ∷ []) past →
+    Recalls ((snapshots (take i moments) ++ snapshot_of moment.before ∷ []) ++ now ∷ []) past →
     Recalls (snapshots (take (i + 1) moments) ++ now ∷ []) past
 Recalls-next moments i moment rest now past is recalls = rw (snapshots-next moments i moment rest is) recalls

@@ -8,7 +8,7 @@ use Rattle.machine_model.specs.declared.run.Outcome.{Outcome}
 use Rattle.machine_model.specs.declared.run.Outcome.TheVariants as outcomes
 use Rattle.machine_model.specs.declared.run.Run.{Run}
 use Rattle.machine_model.specs.Policy.{Choice, choose}
-use Rattle.machine_model.specs.Run.{Course, advanced, advanced_with, begun, onward_or_told, run_from, run_of}
+use Rattle.machine_model.specs.Run.{Course, advanced, advanced_with, first_course, onward_or_concluded, run_from, run_of}
 use Rattle.machine_model.specs.System.{System}
 use Rattle.machine_model.proofs.Replays.{Begins, chosen-begins, run_from-begins}
 use Rattle.race_top.specs.TraceReplay.{fault_at_end, fault_from, first_other, is_listed, replay_fault}
@@ -96,8 +96,8 @@ taken-without_fault listed run None is some none =
 -- a run that was spent has the turn that was cut
 spent-some : {S : Type 0} (go : Course S → Run) (system : System S) (course : Course S) (choice : Option Choice) →
     ((next : Course S) → Begins next.turns (go next).turns) →
-    (onward_or_told system go (advanced_with system course choice)).outcome ≡ outcomes.Spent →
-    0 < length (onward_or_told system go (advanced_with system course choice)).turns
+    (onward_or_concluded system go (advanced_with system course choice)).outcome ≡ outcomes.Spent →
+    0 < length (onward_or_concluded system go (advanced_with system course choice)).turns
 spent-some go system course None continues spent = absurd (let h : ⊥ = cc in h)
 spent-some go system course (Some choice) continues spent =
     let begins = chosen-begins go system course choice continues in
@@ -117,6 +117,6 @@ pub replay_fault-none : {S : Type 0} (system : System S) (listed : List ℕ) (st
     take (length listed) (run_of system listed steps).turns ≡ listed
 unfolding replay_fault run_of
 replay_fault-none system listed steps none =
-    let run = run_from (steps + 1) system listed (begun system steps) in
+    let run = run_from (steps + 1) system listed (first_course system steps) in
     taken-without_fault listed run (first_other listed run.turns) refl
-    (run_from-some (steps + 1) system listed (begun system steps) (omega arith)) none
+    (run_from-some (steps + 1) system listed (first_course system steps) (omega arith)) none

@@ -9,7 +9,7 @@ use Rattle.machine_model.specs.declared.race.Race.{Race}
 use Rattle.machine_model.specs.declared.run.Run.{Run}
 use Rattle.machine_model.specs.declared.state.OutItem.{OutItem}
 use Rattle.machine_model.specs.Job.{Alternate, AlternateJob, PrimaryJob}
-use Rattle.machine_model.specs.Job.Alternate.{Runs, Not, Absent}
+use Rattle.machine_model.specs.Job.Alternate.{Ran, Not, Absent}
 use Rattle.race_verdict.specs.declared.result.JobKind.{JobKind}
 use Rattle.race_verdict.specs.declared.result.JobKind.TheVariants as kinds
 use Rattle.race_verdict.specs.declared.result.JobResult.{JobResult}
@@ -17,7 +17,7 @@ use Rattle.race_verdict.specs.declared.result.Judged.{Judged}
 use Rattle.race_verdict.specs.declared.result.Judged.TheVariants.{Admitted, Never, NotJudged}
 use Rattle.race_verdict.specs.declared.verdict.Verdict.{Verdict}
 use Rattle.race_verdict.specs.Results.{jobs_from}
-use Rattle.race_verdict.specs.Verdict.{VerdictOf, exits}
+use Rattle.race_verdict.specs.Verdict.{VerdictOf, is_exit}
 use Rattle.report_text.specs.declared.report.RaceReport.{RaceReport}
 
 abbrev pub same_output : List OutItem → List OutItem → Bool
@@ -26,17 +26,17 @@ same_output one other = pointwise (item.ghosts).eq one other
 -- a path without inputs admits an output exactly where its primary prints it
 abbrev pub judged_run : Input → Run → Run → Judged
 judged_run input primary run =
-    if exits primary.outcome && exits run.outcome
+    if is_exit primary.outcome && is_exit run.outcome
     then (if same_output primary.output run.output then Admitted input else Never)
     else NotJudged
 
 abbrev pub judged_of : Input → Run → Alternate → Judged
-judged_of input primary (Runs run) = judged_run input primary run
+judged_of input primary (Ran run) = judged_run input primary run
 judged_of input primary (Not reason turns) = NotJudged
 judged_of input primary Absent = NotJudged
 
 abbrev pub kind_of : Alternate → JobKind
-kind_of (Runs run) = kinds.Ran run
+kind_of (Ran run) = kinds.Ran run
 kind_of (Not reason turns) = kinds.Not reason turns
 kind_of Absent = kinds.Absent
 
@@ -45,11 +45,11 @@ pub record Jobs : Type 0 where
   pub primary : Input → Run
   pub alternate : Input → ℕ → Alternate
 
--- of a race of a case. Number 1 is the schedule that follows the recorded turns; there is no other yet
+-- of a race of a case
 abbrev pub jobs_of : Module → Case → Race → Jobs
 jobs_of code case race = record {
   primary = PrimaryJob code case;
-  alternate = λ input schedule. AlternateJob code case race input;
+  alternate = AlternateJob code case race;
 }
 
 -- schedule 0 of a path is its primary

@@ -8,11 +8,11 @@ use Rattle.machine_model.specs.declared.race.Race.{Race}
 use Rattle.machine_model.specs.declared.run.Reason.{Reason}
 use Rattle.machine_model.specs.declared.run.Run.{Run}
 use Rattle.machine_model.specs.declared.state.OutItem.{OutItem}
-use Rattle.machine_model.specs.Job.Alternate.{Runs, Not}
+use Rattle.machine_model.specs.Job.Alternate.{Ran, Not}
 use Rattle.race_verdict.specs.declared.verdict.HarmlessRun.{HarmlessRun}
 use Rattle.race_verdict.specs.declared.verdict.Verdict.{Verdict}
 use Rattle.race_verdict.specs.declared.verdict.Verdict.TheVariants.{SpecViolated, SingleOrdering, OutputDiffers, Unresolved, Harmless}
-use Rattle.race_verdict.specs.Verdict.{distinct, exits, is_spent, violates}
+use Rattle.race_verdict.specs.Verdict.{distinct, is_exit, is_spent, violates}
 use Rattle.race_top.specs.AnalyserPool.{ClassOf, Jobs, job_numbers, jobs_of}
 use Rattle.race_top.specs.CheckRace.{RaceOf}
 
@@ -22,7 +22,7 @@ pub record IsRunOfJob (jobs : Jobs) (IsInput : ℕ → Input → Type 0) (listed
   pub on_path : IsInput path input
   pub either :
       ((schedule ≡ 0) × (jobs.primary input ≡ run))
-      ⊎ ((0 < schedule) × (jobs.alternate input schedule ≡ Runs run))
+      ⊎ ((0 < schedule) × (jobs.alternate input schedule ≡ Ran run))
 
 -- a run of a job with these turns, which ends as told
 pub record ShowsEnd (jobs : Jobs) (IsInput : ℕ → Input → Type 0) (listed : List (ℕ × ℕ)) (path schedule : ℕ) (input : Input) (turns : List ℕ) (Ends : Run → Type 0) : Type 0 where
@@ -40,9 +40,9 @@ pub record ShowsReason (jobs : Jobs) (IsInput : ℕ → Input → Type 0) (liste
 
 -- the recorded order and the other one both exit: their runs
 pub record BothExit (jobs : Jobs) (schedule : ℕ) (input : Input) (alternate : Run) : Type 0 where
-  pub second : jobs.alternate input schedule ≡ Runs alternate
-  pub first_exits : IsTrue (exits (jobs.primary input).outcome)
-  pub second_exits : IsTrue (exits alternate.outcome)
+  pub second : jobs.alternate input schedule ≡ Ran alternate
+  pub first_exits : IsTrue (is_exit (jobs.primary input).outcome)
+  pub second_exits : IsTrue (is_exit alternate.outcome)
 
 -- they print differently
 pub record ShowsDifference (jobs : Jobs) (IsInput : ℕ → Input → Type 0) (listed : List (ℕ × ℕ)) (path schedule : ℕ) (input : Input) (primary : List ℕ) (prints : List OutItem) (turns : List ℕ) (output : List OutItem) : Type 0 where
@@ -70,7 +70,7 @@ pub record ShowsAdmitted (jobs : Jobs) (IsInput : ℕ → Input → Type 0) (lis
 -- the alternate, where it exits, has the input and the turns of one of the runs
 abbrev pub IsAmong : Jobs → ℕ → Input → List HarmlessRun → Type 0
 IsAmong jobs schedule input runs =
-    (alternate : Run) → jobs.alternate input schedule ≡ Runs alternate → IsTrue (exits alternate.outcome) →
+    (alternate : Run) → jobs.alternate input schedule ≡ Ran alternate → IsTrue (is_exit alternate.outcome) →
     (run : HarmlessRun) × Contains runs run × (run.input ≡ input) × (run.turns ≡ alternate.turns)
 
 -- there are such runs, no two have one input and the same turns, and no listed alternate that exits is left out

@@ -5,9 +5,9 @@ pub mod CheckRace
 pub mod CheckRaceLaws
 pub mod Command
 pub mod Due
+pub mod Evidence
 pub mod File
 pub mod Files
-pub mod Evidence
 pub mod FirstRefusal
 pub mod HoldTurn
 pub mod OrderEnforcer
@@ -19,4 +19,5 @@ pub mod ReplayLaws
 pub mod Seen
 pub mod Status
 pub mod Stop
+pub mod Tested
 pub mod TraceReplay

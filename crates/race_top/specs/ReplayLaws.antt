@@ -3,7 +3,7 @@ use Rattle.std.specs.Prelude.{◌≡◌, ◌≢◌, ℕ, ◌+◌, List, Contains
 use Rattle.machine_model.specs.declared.run.Outcome.TheVariants as outcomes
 use Rattle.machine_model.specs.declared.run.Run.{Run}
 use Rattle.machine_model.specs.ReplayLaws.{course_after}
-use Rattle.machine_model.specs.Run.{begun, run_of}
+use Rattle.machine_model.specs.Run.{first_course, run_of}
 use Rattle.machine_model.specs.System.{System}
 use Rattle.race_top.specs.TraceReplay.{replay_fault}
 use Rattle.race_top.specs.TraceReplay.ReplayFault.{TurnNotEnabled}
@@ -25,4 +25,4 @@ RefusedIsNotEnabled system =
     (listed : List ℕ) (steps before thread : ℕ) →
     replay_fault listed (run_of system listed steps) ≡ Some (TurnNotEnabled (before + 1)) →
     slice_get listed before ≡ Some thread →
-    ¬ Contains (system.enabled (course_after before system listed (begun system steps)).state) thread
+    ¬ Contains (system.enabled (course_after before system listed (first_course system steps)).state) thread

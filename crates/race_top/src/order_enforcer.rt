@@ -5,8 +5,10 @@
 //! - `tested`: runs with the repeat test
 //! - `point`: the run up to the hold point
 //! - `hold`: the hold of the race's first thread
+//! - `begun`: the hold with the turn that this thread takes after it, which all schedules share
 //! - `job`: the primary and the alternate as jobs
 
+mod begun;
 mod hold;
 mod job;
 mod past;

@@ -60,10 +60,10 @@ fn run_counted<L: Ledger>(
     for _ in 0..most {
         match course.advance(code, case, input, &mut steps)? {
             Advance::Onward(next) => course = next,
-            Advance::Over(last, outcome) => return Ok(last.tell(outcome)),
+            Advance::Over(last, outcome) => return Ok(last.conclude(outcome)),
         }
     }
-    Ok(course.tell(Outcome::Spent))
+    Ok(course.conclude(Outcome::Spent))
 }
 
 /// The primary of an input: the run that follows the recorded turns.

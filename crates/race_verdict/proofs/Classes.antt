@@ -8,7 +8,7 @@ use Rattle.machine_model.specs.declared.run.Run.{Run}
 use Rattle.race_verdict.specs.declared.result.JobResult.{JobResult}
 use Rattle.race_verdict.specs.declared.verdict.Verdict.{Verdict}
 use Rattle.race_verdict.specs.declared.verdict.Verdict.TheVariants.{SingleOrdering, Harmless}
-use Rattle.race_verdict.specs.Verdict.{NotEnforced, VerdictOf, counted, counts, difference, differs_from, distinct, else_, exits, first_of, harmless, is_alternate, is_never, is_spent, primary_run, reason_of, run_that, single_ordering, spending, spent_by, violated_by, violates, violation}
+use Rattle.race_verdict.specs.Verdict.{NotEnforced, VerdictOf, counted, counts, difference, differs_from, distinct, else_, is_exit, first_of, harmless, is_alternate, is_never, is_spent, primary_run, reason_of, run_that, single_ordering, spending, spent_by, violated_by, violates, violation}
 use Rattle.race_verdict.specs.VerdictLaws.{DiffersExactly, IsEnforced, IsFirst, IsSpecViolated, SingleExactly, UnresolvedExactly, ViolatedExactly, ViolationIsFound}
 use Rattle.race_verdict.proofs.FirstAnswers.{none-is_all, some-is_first}
 use Rattle.race_verdict.proofs.Order.{Gives, at_class, both, class-violated, class_of, differs-class, from_class, past_class, same, through, unresolved-class, violated-class}
@@ -31,7 +31,7 @@ difference-gives : (results : List JobResult) (result : JobResult) → Gives 2 (
 unfolding difference
 difference-gives results result verdict =
     go (is_alternate result && is_never result.judged)
-    (first_of (primary_run result.path) results) (run_that exits result.kind)
+    (first_of (primary_run result.path) results) (run_that is_exit result.kind)
   where
     go : (differs : Bool) (primary run : Option Run) →
         cond differs (differs_from result primary run) None ≡ Some verdict → class_of verdict ≡ 2

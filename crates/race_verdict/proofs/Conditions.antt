@@ -15,7 +15,7 @@ use Rattle.race_verdict.specs.declared.result.Judged.{Judged}
 use Rattle.race_verdict.specs.declared.result.Judged.TheVariants.{Admitted, Never, NotJudged}
 use Rattle.race_verdict.specs.declared.verdict.HarmlessRun.{HarmlessRun}
 use Rattle.race_verdict.specs.Results.{AreAlternates, AreResults, IsAlternateOf, IsRan, job_of, jobs_from, jobs_of_path}
-use Rattle.race_verdict.specs.Verdict.{NotEnforced, difference, differs_from, exits, first_of, harmless, harmless_by, is_alternate, is_first_alternate, is_never, is_primary_of, is_spent, primary_run, reason_in, reason_of, run_that, spending, spent_by, violated_by, violates, violation}
+use Rattle.race_verdict.specs.Verdict.{NotEnforced, difference, differs_from, is_exit, first_of, harmless, harmless_by, is_alternate, is_first_alternate, is_never, is_primary_of, is_spent, primary_run, reason_in, reason_of, run_that, spending, spent_by, violated_by, violates, violation}
 use Rattle.race_verdict.specs.VerdictLaws.{AlternatesAreListed, AreHarmlessRuns, HarmlessHasRuns, IsEnforced, IsFirst, NoneGives, SingleIsOfPath}
 use Rattle.race_verdict.proofs.Classes.{single-exactly}
 use Rattle.race_verdict.proofs.FirstAnswers.{none-is_all}
@@ -36,15 +36,15 @@ unskipped paths schedules results result are none among is =
     false≢true (sym (ap is_some here) ∙ after.2)
 
 -- where no job violates or is spent, the run of a job exits
-ran-exits : (results : List JobResult) (result : JobResult) (run : Run) → NoneGives violation results →
-    NoneGives spending results → Contains results result → result.kind ≡ Ran run → IsTrue (exits run.outcome)
-ran-exits results result run sound unspent among is =
+ran-is_exit : (results : List JobResult) (result : JobResult) (run : Run) → NoneGives violation results →
+    NoneGives spending results → Contains results result → result.kind ≡ Ran run → IsTrue (is_exit run.outcome)
+ran-is_exit results result run sound unspent among is =
     go run.outcome
     (sym (ap (λ kind. violated_by result (run_that violates kind)) is) ∙ silent violation results result sound among)
     (sym (ap (λ kind. spent_by result (run_that is_spent kind)) is) ∙ silent spending results result unspent among)
   where
     go : (outcome : Outcome) → violated_by result (cond (violates outcome) (Some run) None) ≡ None →
-        spent_by result (cond (is_spent outcome) (Some run) None) ≡ None → IsTrue (exits outcome)
+        spent_by result (cond (is_spent outcome) (Some run) None) ≡ None → IsTrue (is_exit outcome)
     go (Exit status) sound unspent = refl
     go (Trap trap thread site) sound unspent = absurd (let h : ⊥ = cc (sound) in h)
     go Deadlock sound unspent = absurd (let h : ⊥ = cc (sound) in h)
@@ -52,9 +52,9 @@ ran-exits results result run sound unspent among is =
     go Spent sound unspent = absurd (let h : ⊥ = cc (unspent) in h)
 
 -- the run of a job that exits
-exiting-run : (kind : JobKind) (run : Run) → kind ≡ Ran run → IsTrue (exits run.outcome) →
-    run_that exits kind ≡ Some run
-exiting-run kind run is exited = ap (run_that exits) is ∙ ap (λ test. cond test (Some run) None) exited
+exiting-run : (kind : JobKind) (run : Run) → kind ≡ Ran run → IsTrue (is_exit run.outcome) →
+    run_that is_exit kind ≡ Some run
+exiting-run kind run is exited = ap (run_that is_exit) is ∙ ap (λ test. cond test (Some run) None) exited
 
 -- the recorded path's first alternate ran, where nothing violates and there is no reason
 alternate-ran : (paths schedules : ℕ) (results : List JobResult) (result : JobResult) →
@@ -123,8 +123,8 @@ IsShown alternate run =
 -- an alternate that exits shows its run, where its path's primary exits and its output does not differ
 alternate-harmless : (paths schedules : ℕ) (results : List JobResult) (primary alternate : JobResult) (first run : Run) →
     AreResults paths schedules results → NoneGives (difference results) results → Contains results primary →
-    Contains results alternate → IsAlternateOf primary alternate → run_that exits primary.kind ≡ Some first →
-    run_that exits alternate.kind ≡ Some run → IsShown alternate run
+    Contains results alternate → IsAlternateOf primary alternate → run_that is_exit primary.kind ≡ Some first →
+    run_that is_exit alternate.kind ≡ Some run → IsShown alternate run
 unfolding difference
 alternate-harmless paths schedules results primary alternate first run are equal recorded among of exited ran =
     go alternate.judged refl
@@ -133,7 +133,7 @@ alternate-harmless paths schedules results primary alternate first run are equal
     later = lt-ltb 0 alternate.schedule of.1
 
     exiting : Option Run
-    exiting = run_that exits alternate.kind
+    exiting = run_that is_exit alternate.kind
 
     is_primary : is_primary_of alternate.path primary ≡ true
     is_primary = rw (eq-eqb primary.path alternate.path of.2, eq-eqb primary.schedule 0 of.0) refl
@@ -143,7 +143,7 @@ alternate-harmless paths schedules results primary alternate first run are equal
         let silenced = silent (primary_run alternate.path) results primary
         ((none-is_all (primary_run alternate.path) results).0 none) recorded in
         let here : primary_run alternate.path primary ≡ Some first =
-        ap (λ test. cond test (run_that exits primary.kind) None) is_primary ∙ exited in
+        ap (λ test. cond test (run_that is_exit primary.kind) None) is_primary ∙ exited in
         let h : ⊥ = cc (sym silenced ∙ here) in h
 
     no_difference : (found : Option Run) → found ≢ None → differs_from alternate found (Some run) ≢ None
@@ -191,7 +191,7 @@ alternates-are_listed paths schedules results runs are e alternate run among lat
     go : (primary : JobResult) → Contains results primary → IsAlternateOf primary alternate →
         IsRan primary.kind ⊎ (primary.kind ≡ Skipped) → IsListed
     go primary recorded of (inl (first, reached)) =
-        let first_exits = ran-exits results primary first only.0.0 only.2 recorded reached in
+        let first_exits = ran-is_exit results primary first only.0.0 only.2 recorded reached in
         let shown = alternate-harmless paths schedules results primary alternate first run are only.1 recorded among of
         (exiting-run primary.kind first reached first_exits) (exiting-run alternate.kind run is exited) in
         let listed = only.3.complete alternate shown.0 among shown.1 in
@@ -210,7 +210,7 @@ harmless-has_runs paths schedules results runs are e none =
         let later : 0 < alternate.schedule =
         subst (λ schedule. 0 < schedule) (sym (ap (λ job. job.1) job)) (omega arith) in
         let listed = alternates-are_listed paths schedules results runs are e alternate ran.0 among later ran.1
-        (ran-exits results alternate ran.0 only.0.0 only.2 among ran.1) in
+        (ran-is_exit results alternate ran.0 only.0.0 only.2 among ran.1) in
         let within : listed.1.0 < 0 = subst (λ runs. listed.1.0 < length runs) none listed.1.1 in
         omega arith
 

@@ -8,7 +8,7 @@ use Rattle.race_verdict.specs.declared.result.JobResult.{JobResult}
 use Rattle.race_verdict.specs.declared.verdict.HarmlessRun.{HarmlessRun}
 use Rattle.race_verdict.specs.declared.verdict.Verdict.TheVariants.{Harmless}
 use Rattle.race_verdict.specs.Verdict.{difference, distinct, harmless, same_run, spending}
-use Rattle.race_verdict.specs.VerdictLaws.{AreApart, AreHarmlessRuns, HarmlessOnly, IsSameRun}
+use Rattle.race_verdict.specs.VerdictLaws.{AreDistinct, AreHarmlessRuns, HarmlessOnly, IsSameRun}
 use Rattle.race_verdict.proofs.Classes.{past-difference, past-single, past-spending}
 use Rattle.race_verdict.proofs.Distinct.{same_run_decides}
 use Rattle.race_verdict.proofs.FirstAnswers.{none-is_all}
@@ -22,20 +22,20 @@ unlike-apart first runs = All-weaker (λ other. not (same_run first other) ≡ t
     (filter (λ other. not (same_run first other)) runs)
     (filter_passes (λ other. not (same_run first other)) runs)
 
-filter-apart : (test : HarmlessRun → Bool) (runs : List HarmlessRun) → AreApart runs → AreApart (filter test runs)
-filter-apart test [] apart = tt
-filter-apart test (run ∷ runs) apart = go (test run) (filter-apart test runs apart.1)
+filter-distinct : (test : HarmlessRun → Bool) (runs : List HarmlessRun) → AreDistinct runs → AreDistinct (filter test runs)
+filter-distinct test [] apart = tt
+filter-distinct test (run ∷ runs) apart = go (test run) (filter-distinct test runs apart.1)
   where
-    go : (kept : Bool) → AreApart (filter test runs) → AreApart (cond kept (run ∷ filter test runs) (filter test runs))
+    go : (kept : Bool) → AreDistinct (filter test runs) → AreDistinct (cond kept (run ∷ filter test runs) (filter test runs))
     go true later = (All-filter test (λ other. ¬ IsSameRun run other) runs apart.0, later)
     go false later = later
 
-distinct-apart : (runs : List HarmlessRun) → AreApart (distinct runs)
+distinct-are_distinct : (runs : List HarmlessRun) → AreDistinct (distinct runs)
 unfolding distinct
-distinct-apart [] = tt
-distinct-apart (run ∷ runs) = (
+distinct-are_distinct [] = tt
+distinct-are_distinct (run ∷ runs) = (
   unlike-apart run (distinct runs),
-  filter-apart (λ other. not (same_run run other)) (distinct runs) (distinct-apart runs),
+  filter-distinct (λ other. not (same_run run other)) (distinct runs) (distinct-are_distinct runs),
 )
 
 -- each of the distinct runs is one of the runs
@@ -85,7 +85,7 @@ distinct-are_harmless : (results : List JobResult) →
     AreHarmlessRuns results (distinct (filter_map harmless results))
 unfolding Listed
 distinct-are_harmless results = record {
-  apart = distinct-apart (filter_map harmless results);
+  differ = distinct-are_distinct (filter_map harmless results);
   sound = λ run. λ among.
       filter_map-sound harmless results run (distinct-sound (filter_map harmless results) run among);
   complete = λ result. λ run. λ among. λ some.

@@ -7,7 +7,7 @@ use Rattle.race_verdict.specs.declared.result.JobKind.{JobKind}
 use Rattle.race_verdict.specs.declared.result.JobKind.TheVariants.{Ran, Not, Absent, Skipped}
 use Rattle.race_verdict.specs.declared.result.JobResult.{JobResult}
 use Rattle.race_verdict.specs.declared.result.Judged.TheVariants.{NotJudged}
-use Rattle.race_verdict.specs.Verdict.{exits, run_that, violation}
+use Rattle.race_verdict.specs.Verdict.{is_exit, run_that, violation}
 
 -- the numbers of a job: its path and its schedule
 abbrev pub job_of : JobResult → ℕ × ℕ
@@ -66,8 +66,8 @@ pub record AreResults (paths schedules : ℕ) (results : List JobResult) : Type 
       other.kind ≡ Not second others → (reason ≡ second) × (turns ≡ others)
   -- an alternate that exits is judged where its primary exits too
   pub judged : (primary alternate : JobResult) → Contains results primary → Contains results alternate →
-      IsAlternateOf primary alternate → IsSome (run_that exits primary.kind) →
-      IsSome (run_that exits alternate.kind) → alternate.judged ≢ NotJudged
+      IsAlternateOf primary alternate → IsSome (run_that is_exit primary.kind) →
+      IsSome (run_that is_exit alternate.kind) → alternate.judged ≢ NotJudged
   -- a job is skipped only after one that violates
   pub skipped : (result : JobResult) → Contains results result → result.kind ≡ Skipped →
       IsAfterViolation results result

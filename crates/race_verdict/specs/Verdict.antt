@@ -25,12 +25,12 @@ violates Deadlock = true
 violates (Repeats turn earlier) = true
 violates Spent = false
 
-abbrev pub exits : Outcome → Bool
-exits (Exit status) = true
-exits (Trap trap thread site) = false
-exits Deadlock = false
-exits (Repeats turn earlier) = false
-exits Spent = false
+abbrev pub is_exit : Outcome → Bool
+is_exit (Exit status) = true
+is_exit (Trap trap thread site) = false
+is_exit Deadlock = false
+is_exit (Repeats turn earlier) = false
+is_exit Spent = false
 
 abbrev pub is_spent : Outcome → Bool
 is_spent (Exit status) = false
@@ -95,7 +95,7 @@ single_ordering (Some reason) = Some (SingleOrdering reason.0 reason.1)
 
 -- the run of a path's primary, where it exits
 abbrev pub primary_run : ℕ → JobResult → Option Run
-primary_run path result = if is_primary_of path result then run_that exits result.kind else None
+primary_run path result = if is_primary_of path result then run_that is_exit result.kind else None
 
 abbrev pub is_never : Judged → Bool
 is_never (Admitted input) = false
@@ -112,7 +112,7 @@ differs_from result None run = None
 unfoldable pub difference : List JobResult → JobResult → Option Verdict
 difference results result =
     if is_alternate result && is_never result.judged
-    then differs_from result (first_of (primary_run result.path) results) (run_that exits result.kind)
+    then differs_from result (first_of (primary_run result.path) results) (run_that is_exit result.kind)
     else None
 
 abbrev pub spent_by : JobResult → Option Run → Option Verdict
@@ -138,7 +138,7 @@ harmless_by result NotJudged run = None
 -- an alternate that exits with an output that its path admits
 abbrev pub harmless : JobResult → Option HarmlessRun
 harmless result =
-    if is_alternate result then harmless_by result result.judged (run_that exits result.kind) else None
+    if is_alternate result then harmless_by result result.judged (run_that is_exit result.kind) else None
 
 -- equal inputs and turns
 abbrev pub same_run : HarmlessRun → HarmlessRun → Bool

@@ -8,7 +8,7 @@ use Rattle.race_verdict.specs.declared.verdict.HarmlessRun.{HarmlessRun}
 use Rattle.race_verdict.specs.declared.verdict.Verdict.{Verdict}
 use Rattle.race_verdict.specs.declared.verdict.Verdict.TheVariants.{SpecViolated, SingleOrdering, OutputDiffers, Unresolved, Harmless}
 use Rattle.race_verdict.specs.Results.{AreResults, IsBefore, IsRan}
-use Rattle.race_verdict.specs.Verdict.{VerdictOf, counted, difference, exits, harmless, reason_of, spending, violation}
+use Rattle.race_verdict.specs.Verdict.{VerdictOf, counted, difference, is_exit, harmless, reason_of, spending, violation}
 
 -- the value is the answer of a result before which no result gives one
 pub record IsFirst {A : Type 0} (answer : JobResult → Option A) (results : List JobResult) (value : A) : Type 0 where
@@ -93,14 +93,14 @@ abbrev pub IsSameRun : HarmlessRun → HarmlessRun → Type 0
 IsSameRun one other = (one.input ≡ other.input) × (one.turns ≡ other.turns)
 
 -- no two runs in the list have one input and one list of turns
-abbrev pub AreApart : List HarmlessRun → Type 0
-AreApart [] = Unit {0}
-AreApart (run ∷ runs) = All (λ other. ¬ IsSameRun run other) runs × AreApart runs
+abbrev pub AreDistinct : List HarmlessRun → Type 0
+AreDistinct [] = Unit {0}
+AreDistinct (run ∷ runs) = All (λ other. ¬ IsSameRun run other) runs × AreDistinct runs
 
 -- the runs of the list are those of the alternates that exit with an output that their path admits, each input
 -- with its turns once
 pub record AreHarmlessRuns (results : List JobResult) (runs : List HarmlessRun) : Type 0 where
-  pub apart : AreApart runs
+  pub differ : AreDistinct runs
   pub sound : (run : HarmlessRun) → Contains runs run →
       (result : JobResult) × Contains results result × (harmless result ≡ Some run)
   pub complete : (result : JobResult) (run : HarmlessRun) → Contains results result → harmless result ≡ Some run →
@@ -119,7 +119,7 @@ AlternatesAreListed =
     (paths schedules : ℕ) (results : List JobResult) (runs : List HarmlessRun) → AreResults paths schedules results →
     VerdictOf results ≡ Harmless runs →
     (alternate : JobResult) (run : Run) → Contains results alternate → 0 < alternate.schedule →
-    alternate.kind ≡ Ran run → IsTrue (exits run.outcome) →
+    alternate.kind ≡ Ran run → IsTrue (is_exit run.outcome) →
     (listed : HarmlessRun) × Contains runs listed × (listed.input ≡ alternate.input) × (listed.turns ≡ run.turns)
 
 -- and a run shows it

@@ -2,7 +2,7 @@
 
 ghost use Rattle.std.specs.Option.{option_copied};
 ghost use Rattle.std.specs.Prelude.{◌≡◌, IfOk, filter};
-ghost use Rattle.race_verdict.specs.Verdict.{counts, difference, exits, first_of, is_alternate, primary_run, reason_of, run_that, spending, violates, violation};
+ghost use Rattle.race_verdict.specs.Verdict.{counts, difference, is_exit, first_of, is_alternate, primary_run, reason_of, run_that, spending, violates, violation};
 
 use crate::result::{JobKind, JobResult, Judged};
 use crate::verdict::Verdict;
@@ -23,7 +23,7 @@ fn violates(outcome: Outcome) -> bool
 
 /// The run of a job that exits.
 pub fn exiting(kind: &JobKind) -> Option<&Run>
-    ensures { option_copied result ≡ run_that exits kind.now }
+    ensures { option_copied result ≡ run_that is_exit kind.now }
 {
     match kind {
         JobKind::Ran(run) => match run.outcome {

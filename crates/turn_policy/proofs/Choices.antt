@@ -1,6 +1,7 @@
 -- What the chooser picks, by its mode and by what stands in front of its list and of the threads.
-use Rattle.std.proofs.Common.{◌≡◌, ℕ, ◌+◌, true, false, List, ◌∷◌, [], length, drop, Option, Some, None, refl}
+use Rattle.std.proofs.Common.{◌≡◌, ℕ, ◌+◌, ◌-◌, true, false, List, ◌∷◌, [], length, drop, take, Option, Some, None, refl, sym, ap, ◌∙◌}
 use Rattle.std.specs.Prelude.{find, option_map, position, slice_index, unwrap_or, if◌then◌else◌}
+use Rattle.std.proofs.lemmas.List.{take_rest}
 use Rattle.machine_model.specs.declared.mode.Mode.TheVariants.{Before, Hold, After}
 use Rattle.machine_model.specs.Follow.{Follow, Followed, follow_turns, is_above, is_among}
 use Rattle.machine_model.specs.Policy.{Choice, Policy, choose, followed_in, released}
@@ -25,6 +26,14 @@ pub follow-entry : (listed : List ℕ) (follow : Follow) (threads : List ℕ) (f
 unfolding follow_turns
 follow-entry listed follow [] first entry some found = absurd (let h : ⊥ = cc in h)
 follow-entry listed follow (other ∷ others) first entry some found = rw found refl
+
+-- that entry, where it is looked for in what is left of the list
+pub position-left : (threads listed slice : List ℕ) (place : ℕ) → slice ≡ listed →
+    position (is_among threads) (drop place listed)
+    ≡ position (is_among threads) (take (length slice - place) (drop place slice))
+position-left threads listed slice place same =
+    ap (λ items. position (is_among threads) (drop place items)) (sym same)
+    ∙ ap (position (is_among threads)) (sym (take_rest slice place))
 
 -- no entry of the list is among the threads
 pub follow-past : (listed : List ℕ) (follow : Follow) (threads : List ℕ) (first : ℕ) →

@@ -3,7 +3,7 @@
 ghost use Rattle.std.specs.Prelude.{◌≡◌, ◌<◌, ◌^◌, IfOk, true};
 ghost use Rattle.machine_model.specs.Reach.{Reaches};
 ghost use Rattle.machine_model.specs.Runnable.{IsRunnable};
-ghost use Rattle.race_verdict.specs.Verdict.{exits};
+ghost use Rattle.race_verdict.specs.Verdict.{is_exit};
 ghost use Rattle.race_top.specs.AnalyserPool.{judged_of, kind_of, results_of};
 ghost use Rattle.race_top.specs.OrderEnforcer.{alternate_of};
 
@@ -15,8 +15,8 @@ use rc_base::NoMemory;
 use std::alloc::Global;
 
 /// Whether a run ended with the exit of its process.
-fn exits(run: &Run) -> bool
-    ensures { result ≡ exits run.now.outcome }
+fn is_exit(run: &Run) -> bool
+    ensures { result ≡ is_exit run.now.outcome }
 {
     matches!(run.outcome, Outcome::Exit { .. })
 }
@@ -33,7 +33,7 @@ fn judge(
     let Alternate::Ran(run) = alternate else {
         return Ok(Judged::NotJudged);
     };
-    if !exits(primary) || !exits(run) {
+    if !is_exit(primary) || !is_exit(run) {
         return Ok(Judged::NotJudged);
     }
     if primary.output == run.output {

@@ -71,7 +71,7 @@ fn end_hold(last: Course, outcome: Outcome) -> Enforced
             reason: Reason::Ended,
             course: last,
         },
-        _ => Enforced::Ended(last.tell(outcome)),
+        _ => Enforced::Ended(last.conclude(outcome)),
     }
 }
 
@@ -170,5 +170,5 @@ pub fn hold<L: Ledger>(
             HoldAdvance::Over(enforced) => return Ok(enforced),
         }
     }
-    Ok(Enforced::Ended(course.tell(Outcome::Spent)))
+    Ok(Enforced::Ended(course.conclude(Outcome::Spent)))
 }

@@ -1,23 +1,22 @@
 //! The primary of an input and its alternate as jobs.
 
 ghost use Rattle.std.specs.Prelude.{◌≡◌, ◌+◌, ◌*◌, ◌<◌, ◌^◌, IfOk, Some, true};
-ghost use Rattle.machine_model.specs.Hold.{Held};
-ghost use Rattle.machine_model.specs.Begun.{begun_after};
+ghost use Rattle.machine_model.specs.Begun.{Begun as Start};
 ghost use Rattle.machine_model.specs.Job.{AlternateJob, PrimaryJob, alternate_from};
 ghost use Rattle.machine_model.specs.Primary.{setting_of};
 ghost use Rattle.machine_model.specs.Reach.{Reaches};
 ghost use Rattle.machine_model.specs.Runnable.{IsRunnable};
 ghost use Rattle.machine_model.specs.System.{machine_of};
 ghost use Rattle.machine_model.specs.declared.state.State.{State};
-ghost use Rattle.race_top.specs.OrderEnforcer.{Enforces, IsReady, alternate_of};
+ghost use Rattle.race_top.specs.OrderEnforcer.{Begins, IsBegun, alternate_of};
 
-use crate::order_enforcer::hold::{Enforced, hold};
+use crate::order_enforcer::begun::{Begun, begin_after};
+use crate::order_enforcer::hold::hold;
 use crate::order_enforcer::past::Past;
 use crate::order_enforcer::point::{Point, find_point};
 use crate::order_enforcer::tested::run_tested;
 use concrete_machine::Course;
 use ir_types::{Input, Module};
-use machine_model::laws::alternates_are_whole;
 use machine_model::{Case, Race, Reason, Run, Turns};
 use rc_base::{NoMemory, Steps};
 use std::alloc::Global;
@@ -70,39 +69,35 @@ pub fn primary_job(
     primary_counted::<Brand>(alloc, code, case, input, Blank::new(1))
 }
 
-/// The alternate after its hold: one turn of the thread that was held, and the recorded turns again.
-fn after_hold<L: Ledger>(
-    enforced: Enforced,
+/// The rest of an alternate by the first schedule, which follows the recorded turns again.
+fn finish<L: Ledger>(
+    begun: Begun,
     code: &Module,
     case: &Case,
-    race: &Race,
     input: &Input,
     steps: &mut Steps<L>,
 ) -> Result<Alternate, NoMemory>
     requires steps { case.now.steps < 2 ^ 30 }
-    requires ready { IsReady code.now case.now case.now.steps (2 * case.now.steps + 2) enforced }
-    ensures { IfOk result (λ alternate. (held : Held State) → Enforces enforced held →
+    requires ready { IsBegun code.now case.now case.now.steps (2 * case.now.steps + 3) begun }
+    ensures { IfOk result (λ alternate. (start : Start State) → Begins begun start →
         alternate_of alternate
-        ≡ alternate_from (machine_of (setting_of code.now case.now input.now)) case.now.turns
-        (Some (begun_after (machine_of (setting_of code.now case.now input.now)) case.now.turns race.now held))) }
+        ≡ alternate_from (machine_of (setting_of code.now case.now input.now)) case.now.turns 1 (Some start)) }
 {
-    alternates_are_whole();
-    match enforced {
-        Enforced::Ready { mut course, past } => {
-            course.policy.after(race.t1);
+    match begun {
+        Begun::Ready { course, past } => {
             let run = run_tested(course, past, code, case, input, steps)?;
             Ok(Alternate::Ran(run))
         }
-        Enforced::Not { reason, course } => Ok(Alternate::Not {
+        Begun::Not { reason, course } => Ok(Alternate::Not {
             reason,
             turns: course.turns.into(),
         }),
-        Enforced::Ended(run) => Ok(Alternate::Ran(run)),
+        Begun::Complete(run) => Ok(Alternate::Ran(run)),
     }
 }
 
 /// The alternate of an input, its steps counted.
-#[tactic(auto, unfolding(machine_model::specs::Job::HeldOn))]
+#[tactic(auto, unfolding(machine_model::specs::Job::hold_of))]
 fn alternate_counted<L: Ledger>(
     alloc: Global,
     code: &Module,
@@ -117,7 +112,7 @@ fn alternate_counted<L: Ledger>(
     requires name { blank.name ≡ L.name }
     requires parts { blank.parts ≡ L.parts }
     requires some { 0 < blank.parts }
-    ensures { IfOk result (λ alternate. alternate_of alternate ≡ AlternateJob code.now case.now race.now input.now) }
+    ensures { IfOk result (λ alternate. alternate_of alternate ≡ AlternateJob code.now case.now race.now input.now 1) }
 {
     let mut steps = Steps::<L>::new(blank);
     let Some(point) = find_point(alloc, code, case, race, input, &mut steps)? else {
@@ -130,12 +125,13 @@ fn alternate_counted<L: Ledger>(
     } = point;
     course.policy.hold(race.t1);
     let enforced = hold(course, past, first, code, case, race, input, &mut steps)?;
-    let alternate = after_hold(enforced, code, case, race, input, &mut steps)?;
+    let begun = begin_after(enforced, code, case, race, input, &mut steps)?;
+    let alternate = finish(begun, code, case, input, &mut steps)?;
     Ok(alternate)
 }
 
-/// The alternate of an input whose primary reaches the race: the hold, one turn of the thread that was held, and
-/// the recorded turns again.
+/// The alternate, by the first schedule, of an input whose primary reaches the race: the hold, one turn of the thread
+/// that was held, and the recorded turns again.
 pub fn alternate_job(
     alloc: Global,
     code: &Module,
@@ -146,7 +142,7 @@ pub fn alternate_job(
     requires runnable { IsRunnable code.now }
     requires steps { case.now.steps < 2 ^ 30 }
     requires reached { Reaches code.now case.now race.now input.now ≡ true }
-    ensures { IfOk result (λ alternate. alternate_of alternate ≡ AlternateJob code.now case.now race.now input.now) }
+    ensures { IfOk result (λ alternate. alternate_of alternate ≡ AlternateJob code.now case.now race.now input.now 1) }
 {
     alternate_counted::<Brand>(alloc, code, case, race, input, Blank::new(1))
 }

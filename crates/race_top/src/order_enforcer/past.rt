@@ -2,12 +2,12 @@
 
 ghost use Rattle.std.specs.Prelude.{◌≡◌, ◌∷◌, [], ◌++◌, ◌+◌, ◌<◌, ◌^◌, IfOk, List, OnOk, length};
 ghost use Rattle.machine_model.specs.declared.run.Outcome.TheVariants.{Repeats};
-ghost use Rattle.machine_model.specs.Repeat.{Snapshot, earlier_turn, repeats, same_snapshot, snapshot};
+ghost use Rattle.machine_model.specs.Repeat.{Snapshot, earlier_turn, repeats, same_snapshot, snapshot_of};
 ghost use Rattle.machine_model.specs.Setting.{Setting};
 ghost use Rattle.machine_model.specs.System.{machine_of};
 ghost use Rattle.machine_model.specs.declared.state.State.{State};
 ghost use Rattle.concrete_machine.specs.Course.{course_of};
-ghost use Rattle.race_top.specs.Past.{Recalls, snapshot_of};
+ghost use Rattle.race_top.specs.Past.{Recalls, kept_snapshot};
 
 use concrete_machine::{Course, Machine};
 use machine_model::Outcome;
@@ -27,7 +27,7 @@ pub struct Past {
 impl Past {
     /// Nothing but the start.
     pub fn begin(course: &Course) -> Result<Past, NoMemory>
-        ensures { IfOk result (λ past. Recalls (snapshot (course_of course.now) ∷ []) past) }
+        ensures { IfOk result (λ past. Recalls (snapshot_of (course_of course.now) ∷ []) past) }
     {
         Ok(Past {
             machine: course.machine.fork()?,
@@ -40,7 +40,7 @@ impl Past {
     /// Whether the turn that led to this course repeats the earlier one.
     pub fn repeats(&self, course: &Course) -> bool
         ensures { (setting : Setting) (snapshots : List (Snapshot State)) → Recalls snapshots self.now →
-            result ≡ repeats (machine_of setting) snapshots (snapshot (course_of course.now)) }
+            result ≡ repeats (machine_of setting) snapshots (snapshot_of (course_of course.now)) }
     {
         0 < self.turns && self.is_at(course)
     }
@@ -48,7 +48,7 @@ impl Past {
     /// Whether the course is as it was after the earlier turn.
     fn is_at(&self, course: &Course) -> bool
         ensures { (setting : Setting) →
-            result ≡ same_snapshot (machine_of setting) (snapshot_of self.now) (snapshot (course_of course.now)) }
+            result ≡ same_snapshot (machine_of setting) (kept_snapshot self.now) (snapshot_of (course_of course.now)) }
     {
         self.machine.same_state(&course.machine) && self.policy.same(&course.policy)
     }
@@ -69,7 +69,7 @@ impl Past {
     pub fn note(&mut self, course: &Course) -> Result<(), NoMemory>
         requires { self.old.turns + 1 < 2 ^ 32 }
         ensures recalls { OnOk result ((snapshots : List (Snapshot State)) → Recalls snapshots self.old →
-            Recalls (snapshots ++ snapshot (course_of course.now) ∷ []) self.new) }
+            Recalls (snapshots ++ snapshot_of (course_of course.now) ∷ []) self.new) }
         ensures turns { OnOk result (self.new.turns ≡ self.old.turns + 1) }
     {
         self.turns += 1;

@@ -1,7 +1,7 @@
 //! The run of an input up to the hold point of a race.
 
 ghost use Rattle.std.specs.Prelude.{◌≡◌, ◌∷◌, ◌+◌, ◌<◌, ◌≤◌, ◌^◌, IfOk, IfSome, List, MatchOption};
-ghost use Rattle.machine_model.specs.Job.{hold_point, point_at};
+ghost use Rattle.machine_model.specs.Job.{point_of, point_at};
 ghost use Rattle.machine_model.specs.Moment.{Moment, access_at, from_turn};
 ghost use Rattle.machine_model.specs.Repeat.{Snapshot};
 ghost use Rattle.machine_model.specs.Runnable.{IsRunnable};
@@ -74,7 +74,7 @@ pub fn find_point<L: Ledger>(
 ) -> Result<Option<Point>, NoMemory>
     requires runnable { IsRunnable code.now }
     requires steps { case.now.steps < 2 ^ 30 }
-    ensures point { IfOk result (λ found. FindsPoint found (hold_point code.now case.now race.now input.now)) }
+    ensures point { IfOk result (λ found. FindsPoint found (point_of code.now case.now race.now input.now)) }
     ensures of { IfOk result (λ found. IfSome found (λ point. IsOf code.now case.now point.course)) }
     ensures left { IfOk result (λ found. IfSome found (λ point. point.course.left ≤ case.now.steps)) }
     ensures turns { IfOk result (λ found. IfSome found (λ point. point.past.turns ≤ case.now.steps + 1)) }

@@ -3,6 +3,7 @@ use Rattle.std.specs.Prelude.{slice_get}
 use Rattle.std.proofs.lemmas.Grind.{common_steps}
 use Rattle.std.proofs.lemmas.Option.{gets}
 use Rattle.machine_model.specs.declared.state.Thread.{Thread}
+use Rattle.machine_model.specs.Decision.{numbers_of}
 use Rattle.machine_model.specs.Setting.{Setting}
 use Rattle.machine_model.specs.Thread.{top}
 use Rattle.concrete_machine.specs.Advance.{moved_to}
@@ -29,5 +30,6 @@ returns-clause-value c = λ thread site addresses there pending.
     let next = ap (next_of c.args.setting.now.code) (sym same) ∙ sym code ∙ sym c.in-Some.ensures.value in
     moves_pending c.args.setting.now c.args.state.now c.args.number c.args.left.now thread addresses more c.deref-2.result.now
     (placed_of c.in-Some.placed) (moved_to c.in_ok-end.end c.run_visible.new.state c.run_visible.new.left more) next
-    (λ frame tops. c.in_ok-numbers.ensures.outcomes frame (ap top same ∙ tops)) all
+    (λ frame tops. c.in_ok-numbers.ensures.numbers frame (ap top same ∙ tops)
+    ∙ ap (λ front. numbers_of c.args.setting.now.code c.args.state.now.objects frame front c.in-Some.placed.inst.now) listed) all
     (λ frame tops. c.in_ok-end.ensures.value thread frame more there tops)

@@ -1,14 +1,14 @@
 use Rattle.std.proofs.Common.{◌+◌, ◌-◌, arith, ◌∙◌}
 use Rattle.machine_model.specs.Primary.{Primary, setting_of}
 use Rattle.machine_model.specs.System.{machine_of}
-use Rattle.machine_model.proofs.Courses.{run-begun, run-onward, run-over, run-spent}
+use Rattle.machine_model.proofs.Courses.{run-first_course, run-onward, run-over, run-spent}
 use Rattle.concrete_machine.specs.Course.{course_of}
 use Rattle.race_top.proofs.trace_replay.run_counted.Goals as goal
 
 pub loop-init : goal.loop-init
 loop-init g c = record {
   count = omega (arith, c.from-most.ensures);
-  same = run-begun (c.from-most.result + 1 - 0) (machine_of (setting_of c.args.code.now c.args.case.now c.args.input.now))
+  same = run-first_course (c.from-most.result + 1 - 0) (machine_of (setting_of c.args.code.now c.args.case.now c.args.input.now))
       c.args.case.now.turns c.args.case.now.steps (course_of c.in_ok-course.course) (omega (arith, c.from-most.ensures))
       c.in_ok-course.ensures.course;
   of = c.in_ok-course.ensures.of;
@@ -18,7 +18,7 @@ pub returns-in-Over : goal.returns-in-Over
 returns-in-Over g c =
     let setting = setting_of c.args.code.now c.args.case.now c.args.input.now in
     let most = c.from-most.result + 1 in
-    c.tell.ensures setting
+    c.conclude.ensures setting
     ∙ run-over (most - c.loop.counter) (most - (c.loop.counter + 1)) (machine_of setting)
     c.args.case.now.turns (course_of c.loop.course) (course_of c.in-Over.last) c.in-Over.outcome
     (Primary c.args.code.now c.args.case.now c.args.input.now) (omega arith)
@@ -41,7 +41,7 @@ loop-preserved g c =
 pub returns : goal.returns
 returns g c =
     let setting = setting_of c.args.code.now c.args.case.now c.args.input.now in
-    c.tell-2.ensures setting
+    c.conclude-2.ensures setting
     ∙ run-spent (c.from-most.result + 1 - c.loop.counter) (machine_of setting)
     c.args.case.now.turns (course_of c.loop.course) (Primary c.args.code.now c.args.case.now c.args.input.now)
     (omega arith) c.loop.invariant.same

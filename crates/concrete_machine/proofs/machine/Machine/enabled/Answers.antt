@@ -8,7 +8,7 @@ use Rattle.concrete_machine.proofs.machine.Machine.enabled.Goals as goal
 
 pub returns : goal.returns
 returns c = λ setting runs.
-    let number = c.args.t in
+    let number = c.args.thread in
     let state = c.args.self.now.state in
     let threads : c.deref.result.now ≡ state.threads =
     c.deref.ensures.value

@@ -8,13 +8,13 @@ use Rattle.concrete_machine.proofs.Enabled.{filter_more}
 use Rattle.concrete_machine.proofs.machine.Machine.list_enabled.Goals as goal
 use Rattle.concrete_machine.proofs.machine.Machine.list_enabled.Goals.{then-enabled+in_ok-push, else-enabled}
 
-pub loop-t-preserved : goal.loop-t-preserved
-loop-t-preserved c =
-    let Few : List ℕ → Type 0 = λ listed. All (λ t. t < 16) listed in
-    let small : c.loop-t.t < 16 = omega (arith, c.loop-t-test.true, c.min-most.ensures) in (
+pub loop-thread-preserved : goal.loop-thread-preserved
+loop-thread-preserved c =
+    let Few : List ℕ → Type 0 = λ listed. All (λ thread. thread < 16) listed in
+    let small : c.loop-thread.thread < 16 = omega (arith, c.loop-thread-test.true, c.min-most.ensures) in (
       λ setting runs.
-          let more = filter_more (is_enabled setting c.args.self.now.state) c.loop-t.t in
-          let before = c.loop-t.invariant.0 setting runs in
+          let more = filter_more (is_enabled setting c.args.self.now.state) c.loop-thread.thread in
+          let before = c.loop-thread.invariant.0 setting runs in
           let answer = c.enabled.ensures setting runs in
           elim c.if-enabled.branch [
             | then-enabled+in_ok-push w ↦ grind (arith, common_steps, more)
@@ -22,11 +22,11 @@ loop-t-preserved c =
           ],
       elim c.if-enabled.branch [
         | then-enabled+in_ok-push w ↦
-            let items : c.if-enabled.list.items ≡ c.loop-t.list.items ++ c.loop-t.t ∷ [] = grind (arith, common_steps) in
-            subst Few (sym items) (All-push (λ t. t < 16) c.loop-t.list.items c.loop-t.t c.loop-t.invariant.1 small)
+            let items : c.if-enabled.list.items ≡ c.loop-thread.list.items ++ c.loop-thread.thread ∷ [] = grind (arith, common_steps) in
+            subst Few (sym items) (All-push (λ thread. thread < 16) c.loop-thread.list.items c.loop-thread.thread c.loop-thread.invariant.1 small)
         | else-enabled w ↦
-            let items : c.if-enabled.list.items ≡ c.loop-t.list.items = grind (arith, common_steps) in
-            subst Few (sym items) c.loop-t.invariant.1
+            let items : c.if-enabled.list.items ≡ c.loop-thread.list.items = grind (arith, common_steps) in
+            subst Few (sym items) c.loop-thread.invariant.1
       ],
     )
 
@@ -37,7 +37,7 @@ returns-clause-value c = λ setting runs.
     let count : c.len.result ≡ length threads =
     c.len.ensures ∙ ap (λ (machine : Machine). length machine.state.threads) c.self.view_is in
     let few = runs.few in
-    let all : c.loop-t.t ≡ length threads =
-    omega (arith, count, few, c.loop-t-test.false, c.loop-t.auto.t-end, c.min-most.ensures) in
-    c.loop-t.invariant.0 setting runs
+    let all : c.loop-thread.thread ≡ length threads =
+    omega (arith, count, few, c.loop-thread-test.false, c.loop-thread.auto.thread-end, c.min-most.ensures) in
+    c.loop-thread.invariant.0 setting runs
     ∙ ap (λ n. filter (is_enabled setting c.args.self.now.state) (range_with_len 0 n)) all

@@ -6,8 +6,8 @@ use Rattle.concrete_machine.specs.Machine.{Runs}
 use Rattle.concrete_machine.proofs.machine.Machine.list_enabled.Given as goal
 
 -- the threads before the number have been looked at
-abbrev pub invariant-loop-t : goal.invariant-loop-t
-invariant-loop-t l =
+abbrev pub invariant-loop-thread : goal.invariant-loop-thread
+invariant-loop-thread l =
     ((setting : Setting) → Runs setting.code l.self →
-    l.list.items ≡ filter (is_enabled setting l.self.state) (range_with_len 0 l.t))
-    × All (λ t. t < 16) l.list.items
+    l.list.items ≡ filter (is_enabled setting l.self.state) (range_with_len 0 l.thread))
+    × All (λ thread. thread < 16) l.list.items

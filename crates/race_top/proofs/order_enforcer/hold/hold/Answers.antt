@@ -1,6 +1,6 @@
 use Rattle.std.proofs.Common.{◌≡◌, ℕ, ◌+◌, ◌-◌, ap, sym, ◌∙◌, arith}
 use Rattle.machine_model.specs.Hold.{held_from}
-use Rattle.machine_model.specs.Hold.Held.{Ran}
+use Rattle.machine_model.specs.Hold.Held.{RunOver}
 use Rattle.machine_model.specs.Primary.{setting_of}
 use Rattle.machine_model.specs.System.{machine_of}
 use Rattle.concrete_machine.specs.Course.{course_of}
@@ -77,4 +77,4 @@ returns-clause-held g c = λ snapshots recalls.
     hold-spent (c.from-most.result + 1 - c.loop.counter) system c.args.case.now.turns c.args.race.now
     c.args.first so_far.0 (course_of c.loop.course)
     (from (c.args.course.left + 1) snapshots (course_of c.args.course)) (omega arith) so_far.2
-    ∙ ap Ran (sym (c.tell.ensures (setting_of c.args.code.now c.args.case.now c.args.input.now)))
+    ∙ ap RunOver (sym (c.conclude.ensures (setting_of c.args.code.now c.args.case.now c.args.input.now)))

@@ -6,13 +6,13 @@ use Rattle.machine_model.specs.Moment.{Moment, access_at, from_turn, moments_fro
 use Rattle.machine_model.specs.Policy.{Choice, choose}
 use Rattle.machine_model.specs.Primary.{setting_of}
 use Rattle.machine_model.specs.Reach.{from_first, primary_moments}
-use Rattle.machine_model.specs.Repeat.{snapshot}
+use Rattle.machine_model.specs.Repeat.{snapshot_of}
 use Rattle.machine_model.specs.Run.{Course, advanced, advanced_with}
 use Rattle.machine_model.specs.System.{machine_of}
 use Rattle.machine_model.specs.declared.state.State.{State}
 use Rattle.concrete_machine.specs.Course.{course_of}
 use Rattle.race_top.specs.OrderEnforcer.{FindsPoint}
-use Rattle.race_top.proofs.Moments.{drop-next, moments-begun, moments-chosen, moments-none, moments-onward, moments-over, moments-spent}
+use Rattle.race_top.proofs.Moments.{drop-next, moments-first_course, moments-chosen, moments-none, moments-onward, moments-over, moments-spent}
 use Rattle.race_top.proofs.Points.{Recalls-next, none-chosen, point-here, point-none, point-of, thread-chosen}
 use Rattle.race_top.proofs.order_enforcer.point.find_point.Goals as goal
 
@@ -24,7 +24,7 @@ loop-init g c =
     let start = c.in_ok-course.ensures.course in
     record {
       count = omega (arith, c.from-most.ensures);
-      rest = sym (moments-begun (c.from-most.result + 1 - 0) system case.turns case.steps (course_of c.in_ok-course.course)
+      rest = sym (moments-first_course (c.from-most.result + 1 - 0) system case.turns case.steps (course_of c.in_ok-course.course)
           (omega (arith, c.from-most.ensures)) start);
       from = refl;
       past = c.in_ok-past.ensures;
@@ -66,7 +66,7 @@ returns-in-None-clause-point g c =
     let first = rw c.in-None.is at (c.number_after.ensures moment later refl) in
     let from : moment ∷ later ≡ from_first race moments =
     sym first ∙ ap (from_turn race.t1 c.loop.number) (sym here) ∙ c.loop.invariant.from in
-    let past = snapshots (take c.loop.counter moments) ++ snapshot before ∷ [] in
+    let past = snapshots (take c.loop.counter moments) ++ snapshot_of before ∷ [] in
     let finds : Course State → Type 0 = λ course.
     let one : Moment State = record { before = course; thread = c.in-Some.thread } in
     FindsPoint c.point_of.result (point_at past one (access_at system one)) in
@@ -138,8 +138,8 @@ loop-preserved g c =
       rest = on;
       from = ap (from_turn race.t1 c.in-Some-number_after.rest) on
           ∙ sym past ∙ ap (from_turn race.t1 c.loop.number) (sym here) ∙ c.loop.invariant.from;
-      past = Recalls-next moments c.loop.counter moment later (snapshot next) c.note.new.self here
-          (c.in_ok-note.ensures.recalls (snapshots (take c.loop.counter moments) ++ snapshot before ∷ []) c.loop.invariant.past);
+      past = Recalls-next moments c.loop.counter moment later (snapshot_of next) c.note.new.self here
+          (c.in_ok-note.ensures.recalls (snapshots (take c.loop.counter moments) ++ snapshot_of before ∷ []) c.loop.invariant.past);
       turns = omega (arith, c.in_ok-note.ensures.turns, c.loop.invariant.turns);
       of = of;
       left = omega (arith, rw c.in-Onward.is at c.in_ok-next.ensures.falls, ap (λ course. course.left) c.in_ok-thread.ensures.same, c.loop.invariant.left);

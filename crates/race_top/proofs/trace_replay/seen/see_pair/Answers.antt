@@ -4,7 +4,7 @@ use Rattle.machine_model.specs.Reach.{primary_moments}
 use Rattle.machine_model.specs.System.{machine_of}
 use Rattle.concrete_machine.specs.Course.{course_of}
 use Rattle.race_top.specs.Seen.{moment_due, recorded_from, threads_of}
-use Rattle.race_top.proofs.Moments.{moments-begun, slice_get-here}
+use Rattle.race_top.proofs.Moments.{moments-first_course, slice_get-here}
 use Rattle.race_top.proofs.SeenPairs.{few-threads, first-count, from-start, second-none, second-of, second-past, slice_get-empty}
 use Rattle.race_top.proofs.trace_replay.seen.see_pair.Goals as goal
 
@@ -13,7 +13,7 @@ returns-in_default g c =
     let code = c.args.code.now in
     let case = c.args.case.now in
     let moments = primary_moments code case case.input in
-    let begun = moments-begun (c.from-most.result + 1) (machine_of (setting_of code case case.input)) case.turns case.steps
+    let begun = moments-first_course (c.from-most.result + 1) (machine_of (setting_of code case case.input)) case.turns case.steps
     (course_of c.in_ok-start.start) (omega (arith, c.from-most.ensures)) c.in_ok-start.ensures.course in
     let left = ap (drop (c.args.first - 1)) (sym begun) ∙ rw c.in_default.is at c.in_ok-due.ensures.left in
     second-past moments c.args.first c.args.second (omega arith) (omega arith) (rw left (omega arith))
@@ -37,7 +37,7 @@ returns-in_default-2 g c =
     let code = c.args.code.now in
     let case = c.args.case.now in
     let most = c.from-most.result + 1 in
-    let begun = moments-begun most (machine_of (setting_of code case case.input)) case.turns case.steps
+    let begun = moments-first_course most (machine_of (setting_of code case case.input)) case.turns case.steps
     (course_of c.in_ok-start.start) (omega (arith, c.from-most.ensures)) c.in_ok-start.ensures.course in
     let due = rw c.in-Some.is at c.in_ok-due.ensures.left in
     second-none code case (primary_moments code case case.input) most (most - c.args.first) c.args.first c.args.second c.in-Some.due
@@ -50,7 +50,7 @@ returns-in_default-3 g c =
     let code = c.args.code.now in
     let case = c.args.case.now in
     let most = c.from-most.result + 1 in
-    let begun = moments-begun most (machine_of (setting_of code case case.input)) case.turns case.steps
+    let begun = moments-first_course most (machine_of (setting_of code case case.input)) case.turns case.steps
     (course_of c.in_ok-start.start) (omega (arith, c.from-most.ensures)) c.in_ok-start.ensures.course in
     let due = rw c.in-Some.is at c.in_ok-due.ensures.left in
     let rest = most - c.from.result in
@@ -68,7 +68,7 @@ returns g c =
     let setting = setting_of code case case.input in
     let moments = primary_moments code case case.input in
     let most = c.from-most.result + 1 in
-    let begun = moments-begun most (machine_of setting) case.turns case.steps
+    let begun = moments-first_course most (machine_of setting) case.turns case.steps
     (course_of c.in_ok-start.start) (omega (arith, c.from-most.ensures)) c.in_ok-start.ensures.course in
     let due = rw c.in-Some.is at c.in_ok-due.ensures.left in
     let taken = rw c.in-Some.is at c.in_ok-due.ensures.taken in

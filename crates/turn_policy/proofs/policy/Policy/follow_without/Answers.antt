@@ -1,9 +1,7 @@
-use Rattle.std.proofs.Common.{refl, sym, ap, ◌∙◌}
-use Rattle.std.specs.Prelude.{drop, position}
-use Rattle.std.proofs.lemmas.List.{take_rest}
-use Rattle.machine_model.specs.Follow.{Follow, is_among}
+use Rattle.std.proofs.Common.{refl, sym, ◌∙◌}
+use Rattle.machine_model.specs.Follow.{Follow}
 use Rattle.turn_policy.specs.Policy.{free_threads}
-use Rattle.turn_policy.proofs.Choices.{follow-none, follow-entry, follow-past}
+use Rattle.turn_policy.proofs.Choices.{follow-entry, follow-none, follow-past, position-left}
 use Rattle.turn_policy.proofs.policy.Policy.follow_without.Goals as goal
 
 pub returns-in_err-first-clause-choice : goal.returns-in_err-first-clause-choice
@@ -22,8 +20,7 @@ returns-in-Some-clause-choice c =
     let follow : Follow = record { position = place; last = c.self.inside.last } in
     let threads = free_threads c.args.held c.args.enabled.now in
     let some = sym c.next_above.ensures ∙ c.in_ok-first.was in
-    let rest = ap (λ items. position (is_among threads) (drop place items)) (sym c.as_slice-listed.ensures)
-    ∙ ap (position (is_among threads)) (sym (take_rest c.as_slice-listed.result.now place)) in
+    let rest = position-left threads listed c.as_slice-listed.result.now place c.as_slice-listed.ensures in
     rw (
       ← c.self.view_is,
       c.from.ensures,
@@ -39,8 +36,7 @@ returns-in-None-clause-choice c =
     let follow : Follow = record { position = place; last = c.self.inside.last } in
     let threads = free_threads c.args.held c.args.enabled.now in
     let some = sym c.next_above.ensures ∙ c.in_ok-first.was in
-    let rest = ap (λ items. position (is_among threads) (drop place items)) (sym c.as_slice-listed.ensures)
-    ∙ ap (position (is_among threads)) (sym (take_rest c.as_slice-listed.result.now place)) in
+    let rest = position-left threads listed c.as_slice-listed.result.now place c.as_slice-listed.ensures in
     rw (
       ← c.self.view_is,
       c.unwrap_or.ensures,
