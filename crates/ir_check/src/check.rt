@@ -5,6 +5,7 @@ ghost use Rattle.std.specs.List.{list_any};
 ghost use Rattle.ir_check.specs.Check.{Gives, bad_line, module_of};
 ghost use Rattle.machine_model.specs.MemoryLaws.{AreApart};
 ghost use Rattle.machine_model.specs.Start.{object_of_global};
+ghost use Rattle.machine_model.specs.Rows.{HasRows};
 ghost use Rattle.machine_model.specs.Runnable.{IsRunnable};
 ghost use Rattle.ir_check.specs.Names.{has_form, is_define_main};
 ghost use Rattle.ir_check.specs.declared.check.ModuleError.TheVariants.{NoMemory as OutOfMemory};
@@ -44,6 +45,7 @@ pub fn check_module<'a, 's>(alloc: Global, lines: &'a [Line<'s>]) -> Result<Modu
     ensures exact { Gives result (module_of lines.now) }
     ensures runnable { IfOk result IsRunnable }
     ensures apart { IfOk result (λ code. AreApart (map object_of_global code.globals)) }
+    ensures rows { IfOk result HasRows }
 {
     if let Some(line) = bad_line(alloc, lines)? {
         return Err(ModuleError::Unsupported { line });

@@ -9,7 +9,6 @@ use Rattle.ir_types.specs.declared.external.Extern.{Extern}
 use Rattle.ir_types.specs.declared.external.Extern.TheVariants.{Create, Join, Putchar}
 use Rattle.ir_types.specs.declared.instruction.Inst.{Inst}
 use Rattle.ir_types.specs.declared.instruction.Inst.TheVariants.{Binary, Load, Store, External, Ret}
-use Rattle.ir_types.specs.declared.operation.OpTrap.{OpTrap}
 use Rattle.ir_types.specs.Kind.{width_of, size_of}
 use Rattle.ir_types.specs.Width.{bits_of}
 use Rattle.machine_model.specs.declared.state.Frame.{Frame}

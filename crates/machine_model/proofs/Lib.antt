@@ -7,8 +7,10 @@ pub mod CallShapes
 pub mod CallStates
 pub mod Cases
 pub mod Changes
+pub mod Charges
 pub mod Choices
 pub mod Courses
+pub mod Endings
 pub mod HoldCases
 pub mod HoldLaws
 pub mod Invariants
@@ -30,11 +32,15 @@ pub mod Powers
 pub mod Released
 pub mod Replays
 pub mod RoundRobin
+pub mod RowEffects
 pub mod RunReturns
 pub mod Shapes
+pub mod SpentRuns
 pub mod StateEquality
 pub mod Steps
 pub mod Stored
 pub mod Stores
 pub mod Unrepeated
 pub mod Waiting
+pub mod WholeBlocks
+pub mod WholeTurns

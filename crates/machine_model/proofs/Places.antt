@@ -1,6 +1,7 @@
--- What a list has at a place after a write.
-use Rattle.std.proofs.Common.{◌≡◌, ◌≢◌, ℕ, zero, suc, List, [], ◌∷◌, Some, refl, ap}
-use Rattle.std.specs.Prelude.{slice_get, slice_set}
+-- What a list has at a place, also after a write.
+use Rattle.std.proofs.Common.{◌≡◌, ◌≢◌, ℕ, zero, suc, ◌<◌, List, [], ◌∷◌, length, Some, refl, ap, subst, arith}
+use Rattle.std.specs.Prelude.{All, slice_get, slice_set}
+use Rattle.std.proofs.lemmas.Option.{get_or_from_slice_get, slice_get_within}
 
 -- a write at another place
 pub slice_get-other : {X : Type 0} (xs : List X) (i j : ℕ) (x : X) → j ≢ i → slice_get (slice_set xs i x) j ≡ slice_get xs j
@@ -16,3 +17,12 @@ pub slice_get-own : {X : Type 0} (xs : List X) (i : ℕ) (x old : X) → slice_g
 slice_get-own [] i x old is = absurd (let h : ⊥ = cc in h)
 slice_get-own (first ∷ xs) zero x old is = refl
 slice_get-own (first ∷ xs) (suc i) x old is = slice_get-own xs i x old is
+
+pub slice_get-some : {X : Type 0} (xs : List X) (i : ℕ) → i < length xs → (x : X) × (slice_get xs i ≡ Some x)
+slice_get-some [] i within = absurd (omega arith)
+slice_get-some (first ∷ xs) zero within = (first, refl)
+slice_get-some (first ∷ xs) (suc i) within = slice_get-some xs i (omega arith)
+
+-- what holds of each element, holds of the one at a place
+pub All-slice_get : {X : Type 0} (P : X → Type 0) (xs : List X) (i : ℕ) (x : X) → All P xs → slice_get xs i ≡ Some x → P x
+All-slice_get P xs i x all is = subst P (get_or_from_slice_get xs i x x is) (all i x (slice_get_within xs i x is))

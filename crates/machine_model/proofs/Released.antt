@@ -129,7 +129,7 @@ access-ready setting state number access (Some thread) is runs accesses = record
   accesses = accesses;
 }
 
-may-run : (setting : Setting) (state : State) (number : ℕ) → Contains (enabled setting state) number →
+pub may-run : (setting : Setting) (state : State) (number : ℕ) → Contains (enabled setting state) number →
     may_run setting (shared_of state) number (slice_get state.threads number) ≡ true
 unfolding enabled is_enabled
 may-run setting state number among =

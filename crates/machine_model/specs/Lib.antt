@@ -1,6 +1,7 @@
 pub mod Access
 pub mod Begun
 pub mod Call
+pub mod Charge
 pub mod Code
 pub mod Decision
 pub mod Effect
@@ -28,6 +29,8 @@ pub mod Reach
 pub mod Repeat
 pub mod RepeatLaws
 pub mod ReplayLaws
+pub mod RowLaws
+pub mod Rows
 pub mod Run
 pub mod Runnable
 pub mod Setting

@@ -17,6 +17,7 @@ ghost use Rattle.machine_model.specs.PolicyLaws.{ChoiceIsEnabled, ChoiceIsLast, 
 ghost use Rattle.machine_model.specs.RaceExample.{both_turns, first_turns, leaving_alternate, ordered_alternate, other_order, printed_byte, recorded_order, turned_by_numbers, turned_round, up_to_join, whole_output};
 ghost use Rattle.machine_model.specs.RepeatLaws.{EarlierTurnIsPower, SamePolicyIsEqual, SameStateIsEqual};
 ghost use Rattle.machine_model.specs.ReplayLaws.{TurnsGiveTheRun};
+ghost use Rattle.machine_model.specs.RowLaws.{SpentJobIsCut, SpentRunIsCut, StepsHaveCosts};
 ghost use Rattle.machine_model.specs.Setting.{Setting};
 ghost use Rattle.machine_model.specs.ShapeLaws.{CallsHaveShapes, InstructionsHaveShapes, WaitsHaveShapes};
 ghost use Rattle.machine_model.specs.System.{System, machine_of};
@@ -158,6 +159,14 @@ pub fn pending_is_next()
     ensures started { StartedArePending }
     ensures turn { TurnKeepsPending }
     ensures moments { MomentsArePending }
+{}
+
+/// In a module that has all of its rows each step is one that there is to take, and a run, also that of a job, is spent
+/// only where a step cost more than was left.
+pub fn spent_is_cut()
+    ensures steps { StepsHaveCosts }
+    ensures run { SpentRunIsCut }
+    ensures job { SpentJobIsCut }
 {}
 
 /// The worked example of the machine reference: its run, two runs that are cut, and what its turns cost.

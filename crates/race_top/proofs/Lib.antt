@@ -8,5 +8,6 @@ pub mod Points
 pub mod RaceReached
 pub mod Refusals
 pub mod SeenPairs
+pub mod SpentEvidence
 pub mod Tested
 pub mod Unread

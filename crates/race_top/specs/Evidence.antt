@@ -9,6 +9,11 @@ use Rattle.machine_model.specs.declared.run.Reason.{Reason}
 use Rattle.machine_model.specs.declared.run.Run.{Run}
 use Rattle.machine_model.specs.declared.state.OutItem.{OutItem}
 use Rattle.machine_model.specs.Job.Alternate.{Ran, Not}
+use Rattle.machine_model.specs.Moment.{moments_of}
+use Rattle.machine_model.specs.Primary.{setting_of}
+use Rattle.machine_model.specs.RowLaws.{EndsCut}
+use Rattle.machine_model.specs.Rows.{HasRows}
+use Rattle.machine_model.specs.System.{machine_of}
 use Rattle.race_verdict.specs.declared.verdict.HarmlessRun.{HarmlessRun}
 use Rattle.race_verdict.specs.declared.verdict.Verdict.{Verdict}
 use Rattle.race_verdict.specs.declared.verdict.Verdict.TheVariants.{SpecViolated, SingleOrdering, OutputDiffers, Unresolved, Harmless}
@@ -106,3 +111,11 @@ abbrev pub ClassesHaveEvidence : Type 0
 ClassesHaveEvidence =
     (code : Module) (case : Case) (pair : ℕ × ℕ) (race : Race) →
     RaceOf code case pair ≡ Ok race → RaceHasEvidence code case race (ClassOf code case race)
+
+-- in a module that has all of its rows the run that an unresolved race names has a last step that cost more than was
+-- left
+abbrev pub UnresolvedIsCut : Type 0
+UnresolvedIsCut =
+    (code : Module) (case : Case) (pair : ℕ × ℕ) (race : Race) (path schedule : ℕ) (input : Input) (turns : List ℕ) →
+    HasRows code → RaceOf code case pair ≡ Ok race → ClassOf code case race ≡ Unresolved path schedule input turns →
+    EndsCut (setting_of code case input) (moments_of (machine_of (setting_of code case input)) turns case.steps)

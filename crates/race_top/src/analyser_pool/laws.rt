@@ -1,7 +1,9 @@
 //! Laws of the jobs. No function here does anything; each one's contract is a theorem.
 
 ghost use Rattle.race_top.specs.AnalyserPoolLaws.{JobsGiveResults};
-ghost use Rattle.race_top.specs.Evidence.{ClassesHaveEvidence};
+ghost use Rattle.race_top.specs.Evidence.{ClassesHaveEvidence, UnresolvedIsCut};
+
+use machine_model::laws::spent_is_cut;
 
 /// The results of a race's jobs are as the verdict asks.
 pub fn jobs_give_results()
@@ -12,3 +14,11 @@ pub fn jobs_give_results()
 pub fn classes_have_evidence()
     ensures { ClassesHaveEvidence }
 {}
+
+/// The run that an unresolved race names was cut, in a module that has all of its rows: its last step cost more than
+/// was left. The check of modules accepts no others.
+pub fn unresolved_is_cut()
+    ensures { UnresolvedIsCut }
+{
+    spent_is_cut();
+}
