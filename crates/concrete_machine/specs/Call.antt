@@ -1,7 +1,7 @@
 -- What the code of external calls answers.
 use Rattle.std.specs.Prelude.{◌≡◌, ℕ, ◌<◌, ◌==◌, List, [], length, slice_get, Option, Some, None, Result, Ok, Err, option_to_list, unwrap_or, if◌then◌else◌}
 use Rattle.ir_types.specs.declared.external.Extern.{Extern}
-use Rattle.ir_types.specs.declared.external.Extern.TheVariants.{Putchar}
+use Rattle.ir_types.specs.declared.external.Extern.TheVariants.{Create, Join, ThreadExit, SelfNumber, MutexInit, MutexDestroy, Lock, TryLock, Unlock, CondInit, CondDestroy, CondWait, CondReturn, Signal, Broadcast, Yield, Usleep, Sleep, Malloc, Calloc, Free, Memcpy, Memmove, Memset, Strlen, LlvmMemcpy, LlvmMemmove, LlvmMemset, Putchar, Puts, Printf, Exit, Abort, AssertFail, Input}
 use Rattle.machine_model.specs.declared.state.Frame.{Frame}
 use Rattle.machine_model.specs.declared.state.Object.{Object}
 use Rattle.machine_model.specs.declared.state.State.{State}
@@ -60,7 +60,40 @@ Refuses None (Ok value) = Unit {0}
 Refuses None (Err trap) = ⊥
 Refuses (Some trap) tried = tried ≡ Err trap
 
--- how many items a call prints
+-- how many items a call prints; none where there is no row for it yet
 abbrev pub items_of_call : Extern → ℕ
+items_of_call (Create function) = 0
+items_of_call Join = 0
+items_of_call ThreadExit = 0
+items_of_call SelfNumber = 0
+items_of_call MutexInit = 0
+items_of_call MutexDestroy = 0
+items_of_call Lock = 0
+items_of_call TryLock = 0
+items_of_call Unlock = 0
+items_of_call CondInit = 0
+items_of_call CondDestroy = 0
+items_of_call CondWait = 0
+items_of_call CondReturn = 0
+items_of_call Signal = 0
+items_of_call Broadcast = 0
+items_of_call Yield = 0
+items_of_call Usleep = 0
+items_of_call Sleep = 0
+items_of_call Malloc = 0
+items_of_call Calloc = 0
+items_of_call Free = 0
+items_of_call Memcpy = 0
+items_of_call Memmove = 0
+items_of_call Memset = 0
+items_of_call Strlen = 0
+items_of_call LlvmMemcpy = 0
+items_of_call LlvmMemmove = 0
+items_of_call LlvmMemset = 0
 items_of_call Putchar = 1
-items_of_call _ = 0
+items_of_call Puts = 0
+items_of_call (Printf pieces) = 0
+items_of_call Exit = 0
+items_of_call Abort = 0
+items_of_call AssertFail = 0
+items_of_call (Input slot width) = 0

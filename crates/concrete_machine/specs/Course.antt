@@ -4,13 +4,13 @@ use Rattle.ir_types.specs.declared.«module».Module.{Module}
 use Rattle.machine_model.specs.declared.case.Case.{Case}
 use Rattle.machine_model.specs.declared.state.State.{State}
 use Rattle.machine_model.specs.Policy.{Choice}
+use Rattle.machine_model.specs.Runnable.{IsRunnable}
 use Rattle.machine_model.specs.Run.{Advance, Course}
 use Rattle.machine_model.specs.Run.Advance.{Onward, Over}
 use Rattle.rc_base.specs.declared.failures.NoMemory.{NoMemory}
 use Rattle.concrete_machine.specs.declared.course.Advance.{Advance as Answer}
 use Rattle.concrete_machine.specs.declared.course.Advance.TheVariants as answers
 use Rattle.concrete_machine.specs.declared.course.Course.{Course as Kept}
-use Rattle.concrete_machine.specs.Machine.{Runs}
 
 abbrev pub course_of : Kept → Course State
 course_of kept = record {
@@ -21,9 +21,9 @@ course_of kept = record {
   policy = kept.policy.policy;
 }
 
--- the machine runs the module, and the chooser has the recorded turns
+-- the run is of a module that can be run, and the chooser has the recorded turns
 pub record IsOf (code : Module) (case : Case) (kept : Kept) : Type 0 where
-  pub runs : Runs code kept.machine
+  pub runnable : IsRunnable code
   pub listed : kept.policy.listed ≡ case.turns
 
 abbrev pub advance_of : Answer → Advance State

@@ -9,4 +9,3 @@ pub mod Memory
 pub mod Operation
 pub mod ThreadEnd
 pub mod Turns
-pub mod Waiting

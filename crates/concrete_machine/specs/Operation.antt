@@ -1,7 +1,7 @@
 -- What the code of the operations answers with which turns begin.
 use Rattle.std.specs.Prelude.{◌≡◌, ℕ, slice_get, Option, Some, None}
 use Rattle.ir_types.specs.declared.instruction.Inst.{Inst}
-use Rattle.ir_types.specs.declared.instruction.Inst.TheVariants.{External}
+use Rattle.ir_types.specs.declared.instruction.Inst.TheVariants.{Binary, Compare, Convert, Same, Select, Phi, Alloca, Load, Store, Address, Branch, BranchIf, Switch, Ret, Unreachable, Call, External}
 use Rattle.machine_model.specs.declared.state.Frame.{Frame}
 use Rattle.machine_model.specs.declared.state.State.{State}
 use Rattle.machine_model.specs.declared.state.Thread.{Thread}
@@ -23,8 +23,23 @@ Acts actions.NoRow more before after effect = (effect ≡ NoRow) × (after ≡ b
 
 -- how many items an instruction prints
 abbrev pub items_of : Inst → ℕ
+items_of (Binary to op a b) = 0
+items_of (Compare to op a b) = 0
+items_of (Convert to op a width) = 0
+items_of (Same to a) = 0
+items_of (Select to c a b) = 0
+items_of (Phi to edges) = 0
+items_of (Alloca to unit count) = 0
+items_of (Load to kind at) = 0
+items_of (Store kind value at) = 0
+items_of (Address to base fixed scaled) = 0
+items_of (Branch block) = 0
+items_of (BranchIf c one other) = 0
+items_of (Switch value default cases) = 0
+items_of (Ret value) = 0
+items_of Unreachable = 0
+items_of (Call to function arguments) = 0
 items_of (External to which arguments) = items_of_call which
-items_of _ = 0
 
 -- the thread has a frame that can go on
 abbrev pub CanGoOn : Option Thread → Type 0

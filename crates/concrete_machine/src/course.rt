@@ -60,39 +60,42 @@ impl Course {
     }
 
     /// Chooses the thread of the next turn among the enabled ones. Where none may be chosen nothing changes.
-    pub fn choose(&mut self) -> Result<Option<u32>, NoMemory>
-        ensures chosen { OnOk result ((setting : Setting) (case : Case) → IsOf setting.code case self.old →
+    pub fn choose(&mut self, code: &Module) -> Result<Option<u32>, NoMemory>
+        requires { IsRunnable code.now }
+        ensures chosen { OnOk result ((case : Case) → IsOf code.now case self.old →
             ChoosesTurn result (course_of self.old) (course_of self.new)
-            (choose case.turns (course_of self.old).policy (enabled setting self.old.machine.state))) }
-        ensures of { OnOk result ((code : Module) (case : Case) → IsOf code case self.old → IsOf code case self.new) }
-        ensures few { IfOk result (λ thread. (code : Module) (case : Case) → IsOf code case self.old → IfSome thread (λ t. t < 16)) }
+            (choose case.turns (course_of self.old).policy (enabled code.now self.old.machine.state))) }
+        ensures of { OnOk result ((case : Case) → IsOf code.now case self.old → IsOf code.now case self.new) }
+        ensures few { IfOk result (λ thread. IfSome thread (λ number. number < 16)) }
         ensures left { OnOk result (self.new.left ≡ self.old.left) }
     {
-        self.machine.list_enabled(&mut self.enabled)?;
+        self.machine.list_enabled(code, &mut self.enabled)?;
         Ok(self.policy.choose(&self.enabled))
     }
 
     /// The thread that `choose` would choose. The run so far stays as it is.
-    pub fn peek(&mut self) -> Result<Option<u32>, NoMemory>
-        ensures thread { IfOk result (λ thread. (setting : Setting) (case : Case) → IsOf setting.code case self.old →
+    pub fn peek(&mut self, code: &Module) -> Result<Option<u32>, NoMemory>
+        requires { IsRunnable code.now }
+        ensures thread { IfOk result (λ thread. (case : Case) → IsOf code.now case self.old →
             thread ≡ option_map (λ choice. choice.thread)
-            (choose case.turns (course_of self.old).policy (enabled setting self.old.machine.state))) }
+            (choose case.turns (course_of self.old).policy (enabled code.now self.old.machine.state))) }
         ensures same { OnOk result (course_of self.new ≡ course_of self.old) }
-        ensures of { OnOk result ((code : Module) (case : Case) → IsOf code case self.old → IsOf code case self.new) }
+        ensures of { OnOk result ((case : Case) → IsOf code.now case self.old → IsOf code.now case self.new) }
     {
-        self.machine.list_enabled(&mut self.enabled)?;
+        self.machine.list_enabled(code, &mut self.enabled)?;
         Ok(self.policy.peek(&self.enabled))
     }
 
     /// The access that a turn of a thread does, if it does one.
-    pub fn access(&self, thread: u32) -> Option<Access>
-        ensures { (setting : Setting) (case : Case) → IsOf setting.code case self.now →
+    pub fn access(&self, code: &Module, thread: u32) -> Option<Access>
+        requires { IsRunnable code.now }
+        ensures { (setting : Setting) → setting.code ≡ code.now →
             result ≡ access_at (machine_of setting) (record { before = course_of self.now; thread = thread }) }
     {
         if self.left == 0 {
             return None;
         }
-        Access::of(self.machine.pending(thread))
+        Access::of(self.machine.pending(code, thread))
     }
 
     /// Takes a turn of the thread that was chosen.
@@ -150,7 +153,7 @@ impl Course {
         ensures of { IfOk result (GoesOn code.now case.now) }
         ensures falls { IfOk result (λ next. left_in next ≤ self.left) }
     {
-        let Some(thread) = self.choose()? else {
+        let Some(thread) = self.choose(code)? else {
             return Ok(Advance::Over(self, Outcome::Deadlock));
         };
         let next = self.take(code, case, input, thread, steps)?;

@@ -45,7 +45,15 @@ fn trap_of_test(op: BinOp, test: u64) -> Option<Trap>
     }
 }
 
-fn compute(code: &Module, thread: &mut Thread, to: u32, op: BinOp, a: Operand, b: Operand, test: u64) -> Effect
+fn compute(
+    code: &Module,
+    thread: &mut Thread,
+    to: u32,
+    op: BinOp,
+    a: Operand,
+    b: Operand,
+    test: u64,
+) -> Effect
     requires frame { IsSome (top thread.old) }
     requires next { IfSome (top thread.old) HasNext }
     ensures { (frame : Frame) (objects : List Object) → top thread.old ≡ Some frame →
@@ -113,7 +121,15 @@ pub fn apply(
         (effect_of setting.now number (footprint_with thread.old objects.old) frame decided.now inst.now) }
 {
     match inst {
-        Inst::Binary { to, op, a, b } => compute(setting.code, thread, *to, *op, *a, *b, number_at(decided, 0)),
+        Inst::Binary { to, op, a, b } => compute(
+            setting.code,
+            thread,
+            *to,
+            *op,
+            *a,
+            *b,
+            number_at(decided, 0),
+        ),
         Inst::Load { to, kind, .. } => load(thread, objects, *to, *kind, number_at(decided, 0)),
         Inst::Store { kind, value, .. } => {
             store(thread, objects, *kind, *value, number_at(decided, 0))

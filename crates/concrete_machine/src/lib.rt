@@ -2,7 +2,7 @@
 //!
 //! - `course`: a run so far, turn by turn, of a machine and a chooser
 //! - `machine`: a machine that runs a module, turn by turn
-//! - `waiting`: what each thread waits to do
+//! - `waiting`: what each thread waits to do, and whether it has to wait
 //!
 //! What a turn is made of:
 //!
@@ -41,4 +41,3 @@ mod waiting;
 pub use course::{Advance, Course};
 pub use machine::Machine;
 pub use machine_model::{Pending, TurnEnd};
-pub use waiting::Waiting;

@@ -5,16 +5,15 @@ ghost use Rattle.ir_types.specs.declared.«module».Module.{Module};
 ghost use Rattle.machine_model.specs.Access.{pending_of_state};
 ghost use Rattle.machine_model.specs.Enabled.{enabled, is_enabled};
 ghost use Rattle.machine_model.specs.Runnable.{IsRunnable};
-ghost use Rattle.machine_model.specs.Setting.{Setting};
 ghost use Rattle.machine_model.specs.Start.{started};
 ghost use Rattle.machine_model.specs.System.{same_state, thread_has_ended};
-ghost use Rattle.concrete_machine.specs.Machine.{Runs, machine_turn};
+ghost use Rattle.concrete_machine.specs.Machine.{machine_turn};
 
 use crate::call::MOST_THREADS;
 use crate::setting::Setting;
 use crate::starts::start;
 use crate::turns::turn;
-use crate::waiting::{Waiting, list_waiting, may_run};
+use crate::waiting::{is_enabled, pending_operation};
 use ir_types::{Input, Module, Site};
 use machine_model::{OutItem, Outcome, Pending, Run, State, TurnEnd, Turns};
 use rc_base::{NoMemory, Steps};
@@ -22,26 +21,27 @@ use std::alloc::Global;
 use std::marker::Model;
 use std::sync::ledger::Ledger;
 
-/// A state in place, from the start of a module on, with what each thread waits to do.
+/// A state in place, from the start of a module on, and the numbers that were decided on the way.
 #[derive(Debug, Drop)]
 pub struct Machine {
     state: State,
-    waiting: Vec<Waiting>,
     decisions: Vec<u64>,
     /// The numbers that one turn decides; made once and used in each turn.
     decided: Vec<u64>,
 }
 
 impl Model for Machine {
+    ghost use Rattle.std.specs.Prelude.{◌≤◌, length};
     ghost use Rattle.concrete_machine.specs.Machine.{Machine as Seen};
 
     ghost Value = { Seen };
 
     ghost view = { λ machine. record {
       state = machine.state;
-      waiting = machine.waiting.items;
       decided = machine.decisions.items;
     } };
+
+    ghost invariant = { λ machine. length machine.state.threads ≤ 16 };
 }
 
 /// Counts what a turn costs.
@@ -57,38 +57,34 @@ impl Machine {
     /// The machine of a module and an input before its first turn: main waits to start.
     pub fn start(alloc: Global, code: &Module, input: &Input) -> Result<Machine, NoMemory>
         requires { IsRunnable code.now }
-        ensures runs { IfOk result (Runs code.now) }
         ensures state { IfOk result (λ machine. machine.state ≡ started code.now) }
         ensures decided { IfOk result (λ machine. machine.decided ≡ []) }
     {
-        let state = start(alloc, code)?;
-        let mut waiting = Vec::new(alloc);
-        list_waiting(code, &state.threads.items, &mut waiting)?;
         Ok(Machine {
-            state,
-            waiting,
+            state: start(alloc, code)?,
             decisions: Vec::new(alloc),
             decided: Vec::new(alloc),
         })
     }
 
     /// Whether a thread may take a turn: it was made, has not ended, and doesn't have to wait.
-    pub fn enabled(&self, thread: u32) -> bool
-        ensures { (setting : Setting) → Runs setting.code self.now → result ≡ is_enabled setting self.now.state thread }
+    pub fn enabled(&self, code: &Module, thread: u32) -> bool
+        requires { IsRunnable code.now }
+        ensures { result ≡ is_enabled code.now self.now.state thread }
     {
-        may_run(&self.state.threads.items, &self.waiting, thread as usize)
+        is_enabled(code, &self.state, thread as usize)
     }
 
     /// Lists the threads that may take a turn, rising, in place of what the list held.
-    pub fn list_enabled(&self, list: &mut Vec<u32>) -> Result<(), NoMemory>
-        ensures value { OnOk result ((setting : Setting) → Runs setting.code self.now →
-            list.new.items ≡ enabled setting self.now.state) }
-        ensures few { OnOk result ((code : Module) → Runs code self.now → All (λ thread. thread < 16) list.new.items) }
+    pub fn list_enabled(&self, code: &Module, list: &mut Vec<u32>) -> Result<(), NoMemory>
+        requires { IsRunnable code.now }
+        ensures value { OnOk result (list.new.items ≡ enabled code.now self.now.state) }
+        ensures few { OnOk result (All (λ thread. thread < 16) list.new.items) }
     {
         let most = self.state.threads.len().min(MOST_THREADS);
         list.clear();
         for thread in 0..most as u32 {
-            if self.enabled(thread) {
+            if self.enabled(code, thread) {
                 list.push(thread)?;
             }
         }
@@ -104,11 +100,12 @@ impl Machine {
     }
 
     /// What a thread waits to do.
-    pub fn pending(&self, thread: u32) -> Pending
-        ensures { (code : Module) → Runs code self.now → result ≡ pending_of_state code self.now.state thread }
+    pub fn pending(&self, code: &Module, thread: u32) -> Pending
+        requires { IsRunnable code.now }
+        ensures { result ≡ pending_of_state code.now self.now.state thread }
     {
-        match self.waiting.get(thread as usize) {
-            Some(waiting) => waiting.pending,
+        match self.state.threads.as_slice().get(thread as usize) {
+            Some(thread) => pending_operation(code, thread),
             None => Pending::Unborn,
         }
     }
@@ -138,8 +135,7 @@ impl Machine {
         left: &mut u32,
         steps: &mut Steps<L>,
     ) -> Result<(Machine, TurnEnd), NoMemory>
-        requires { Runs code.now self }
-        ensures runs { IfOk result (λ done. Runs code.now done.0) }
+        requires { IsRunnable code.now }
         ensures state { IfOk result (λ done.
             done.0.state ≡ (machine_turn code.now input.now watch.now self thread left.old).after) }
         ensures decided { IfOk result (λ done.
@@ -151,25 +147,25 @@ impl Machine {
     {
         let Machine {
             mut state,
-            mut waiting,
             mut decisions,
             mut decided,
         } = self;
         let alloc = *decided.allocator();
-        let setting = Setting {
-            code,
-            input,
-            watch,
-        };
+        let setting = Setting { code, input, watch };
         let before = *left;
         decided.clear();
-        let end = turn(alloc, &setting, &mut state, thread as usize, left, &mut decided)?;
+        let end = turn(
+            alloc,
+            &setting,
+            &mut state,
+            thread as usize,
+            left,
+            &mut decided,
+        )?;
         count(before - *left, steps);
         decisions.extend_from_slice(&decided)?;
-        list_waiting(code, &state.threads.items, &mut waiting)?;
         let machine = Machine {
             state,
-            waiting,
             decisions,
             decided,
         };
@@ -182,7 +178,6 @@ impl Machine {
     {
         Ok(Machine {
             state: self.state.clone()?,
-            waiting: self.waiting.clone()?,
             decisions: self.decisions.clone()?,
             decided: self.decided.clone()?,
         })

@@ -1,24 +1,17 @@
-//! What a thread waits to do, kept beside the state so that it is known without the module.
+//! What a thread waits to do, and whether it has to wait for that.
 
-ghost use Rattle.std.specs.Prelude.{◌≡◌, OnOk, map, slice_get};
+ghost use Rattle.std.specs.Prelude.{◌≡◌, ℕ};
 ghost use Rattle.machine_model.specs.Access.{pending_in, pending_inst, pending_operation};
+ghost use Rattle.machine_model.specs.Enabled.{has_to_wait, is_enabled, waits_for, waits_in};
 ghost use Rattle.machine_model.specs.Runnable.{IsRunnable};
+ghost use Rattle.machine_model.specs.Shared.{shared_of};
 ghost use Rattle.machine_model.specs.Thread.{top};
-ghost use Rattle.concrete_machine.specs.Waiting.{awaits, joined, joined_in, joined_inst, may_run, waiting_of};
 
-use crate::call::is_awaited;
+use crate::call::is_blocked;
 use crate::code::next_of;
 use crate::operand::number_at;
-use ir_types::{Extern, Inst, Module, Site};
-use machine_model::{Operation, Pending, Thread};
-use rc_base::NoMemory;
-
-/// The pending operation of a thread, with the thread that it joins, if it is a join.
-#[derive(Clone, Copy, Debug, PartialEq, Eq)]
-pub struct Waiting {
-    pub pending: Pending,
-    pub joins: Option<u64>,
-}
+use ir_types::{Inst, Module, Site};
+use machine_model::{Operation, Pending, State, Thread};
 
 /// A visible instruction as other threads see it, its address decided.
 fn pending_inst(site: Site, decided: &[u64], inst: &Inst) -> Pending
@@ -41,91 +34,74 @@ fn pending_inst(site: Site, decided: &[u64], inst: &Inst) -> Pending
     }
 }
 
-/// The thread that an instruction joins.
-fn joined_inst(decided: &[u64], inst: &Inst) -> Option<u64>
-    ensures { result ≡ joined_inst decided.now inst.now }
-{
-    match inst {
-        Inst::External {
-            which: Extern::Join,
-            ..
-        } => Some(number_at(decided, 0)),
-        _ => None,
-    }
-}
-
 /// What a thread waits to do whose next instruction is visible.
-fn waiting_at(code: &Module, thread: &Thread, site: Site, decided: &[u64]) -> Waiting
+fn pending_at(code: &Module, thread: &Thread, site: Site, decided: &[u64]) -> Pending
     requires { IsRunnable code.now }
-    ensures { result ≡ record {
-      pending = pending_in code.now site decided.now (top thread.now);
-      joins = joined_in code.now decided.now (top thread.now);
-    } }
+    ensures { result ≡ pending_in code.now site decided.now (top thread.now) }
 {
     match next_of(code, thread) {
-        Some(placed) => Waiting {
-            pending: pending_inst(site, decided, placed.inst),
-            joins: joined_inst(decided, placed.inst),
-        },
-        None => Waiting {
-            pending: Pending::Other,
-            joins: None,
-        },
+        Some(placed) => pending_inst(site, decided, placed.inst),
+        None => Pending::Other,
     }
 }
 
 /// What a thread of the module waits to do.
-#[tactic(auto, unfolding(machine_model::specs::Access::pending_operation, crate::specs::Waiting::joined))]
-fn waiting_of(code: &Module, thread: &Thread) -> Waiting
+#[tactic(auto, unfolding(machine_model::specs::Access::pending_operation))]
+pub fn pending_operation(code: &Module, thread: &Thread) -> Pending
     requires { IsRunnable code.now }
-    ensures { result ≡ waiting_of code.now thread.now }
+    ensures { result ≡ pending_operation code.now thread.now thread.now.pending }
 {
-    let pending = match &thread.pending {
-        Operation::At { site, decided } => return waiting_at(code, thread, *site, &decided.items),
+    match &thread.pending {
         Operation::Start => Pending::Start,
+        Operation::At { site, decided } => pending_at(code, thread, *site, &decided.items),
         Operation::CondReturn { .. } => Pending::Other,
         Operation::Nothing => Pending::Ended,
-    };
-    Waiting {
-        pending,
-        joins: None,
     }
 }
 
-/// Whether there is a thread to be joined that has to be waited for.
-fn awaits(threads: &[Thread], joins: Option<u64>) -> bool
-    ensures { result ≡ awaits threads.now joins }
+/// Whether an instruction has to wait, its addresses decided: only calls do.
+#[tactic(auto, unfolding(machine_model::specs::Enabled::waits_for))]
+fn waits_for(state: &State, decided: &[u64], inst: &Inst) -> bool
+    ensures { (number : ℕ) → result ≡ waits_for (shared_of state.now) number decided.now inst.now }
 {
-    match joins {
-        Some(number) => is_awaited(threads, number),
-        None => false,
-    }
-}
-
-/// Whether the thread of this number was made, has not ended, and does not have to wait.
-pub fn may_run(threads: &[Thread], waiting: &[Waiting], number: usize) -> bool
-    ensures { result ≡ may_run threads.now (slice_get threads.now number) (slice_get waiting.now number) }
-{
-    match (threads.get(number), waiting.get(number)) {
-        (Some(thread), Some(waiting)) => {
-            thread.ended.is_none() && !awaits(threads, waiting.joins)
-        }
+    match inst {
+        Inst::External { which, .. } => is_blocked(state, which, decided),
         _ => false,
     }
 }
 
-/// Lists what the threads of the module wait to do, in place of what the list held.
-pub fn list_waiting(
-    code: &Module,
-    threads: &[Thread],
-    list: &mut Vec<Waiting>,
-) -> Result<(), NoMemory>
+/// Whether a thread has to wait whose next instruction is visible.
+fn waits_at(code: &Module, state: &State, thread: &Thread, decided: &[u64]) -> bool
     requires { IsRunnable code.now }
-    ensures { OnOk result (list.new.items ≡ map (waiting_of code.now) threads.now) }
+    ensures { (number : ℕ) → result ≡ waits_in code.now (shared_of state.now) number decided.now (top thread.now) }
 {
-    list.clear();
-    for thread in threads {
-        list.push(waiting_of(code, thread))?;
+    match next_of(code, thread) {
+        Some(placed) => waits_for(state, decided, placed.inst),
+        None => false,
     }
-    Ok(())
+}
+
+/// Whether a thread has to wait for the operation that it waits to do.
+#[tactic(auto, unfolding(machine_model::specs::Enabled::has_to_wait))]
+fn has_to_wait(code: &Module, state: &State, thread: &Thread) -> bool
+    requires { IsRunnable code.now }
+    ensures { (number : ℕ) →
+        result ≡ has_to_wait code.now (shared_of state.now) number thread.now thread.now.pending }
+{
+    match &thread.pending {
+        Operation::At { decided, .. } => waits_at(code, state, thread, &decided.items),
+        Operation::Start | Operation::CondReturn { .. } | Operation::Nothing => false,
+    }
+}
+
+/// Whether the thread of this number was made, has not ended, and does not have to wait.
+#[tactic(auto, unfolding(machine_model::specs::Enabled::is_enabled))]
+pub fn is_enabled(code: &Module, state: &State, number: usize) -> bool
+    requires { IsRunnable code.now }
+    ensures { result ≡ is_enabled code.now state.now number }
+{
+    match state.threads.items.get(number) {
+        Some(thread) => thread.ended.is_none() && !has_to_wait(code, state, thread),
+        None => false,
+    }
 }

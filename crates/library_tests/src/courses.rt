@@ -58,9 +58,9 @@ fn take_course<R: Abort, L: Ledger>(rt: &R, alloc: Global, blank: Blank) -> Resu
     let mut steps = Steps::<L>::new(blank);
     let mut course = Course::begin(alloc, &code, &case, &case.input)?;
     for (thread, access) in TURNS.iter() {
-        let next = course.peek()?;
+        let next = course.peek(&code)?;
         assert_eq!(rt; next, Some(*thread));
-        assert_eq!(rt; course.access(*thread), *access);
+        assert_eq!(rt; course.access(&code, *thread), *access);
         match course.advance(&code, &case, &case.input, &mut steps)? {
             Advance::Onward(next) => course = next,
             Advance::Over(last, outcome) => {

@@ -2,7 +2,6 @@
 
 ghost use Rattle.std.specs.Prelude.{◌≡◌, ◌+◌, ◌<◌, ◌^◌, All, IfOk, length};
 ghost use Rattle.machine_model.specs.Runnable.{HasSmallNumbers, IsRunnable};
-ghost use Rattle.concrete_machine.specs.Machine.{Runs};
 
 use concrete_machine::{Machine, Pending, TurnEnd};
 use ir_types::{
@@ -166,14 +165,14 @@ fn take_turns<R: Abort, L: Ledger>(rt: &R, alloc: Global, blank: Blank) -> Resul
     let mut left = 100;
     let mut enabled = Vec::new(alloc);
     let mut machine = Machine::start(alloc, &code, &input)?;
-    assert_eq!(rt; machine.pending(0), Pending::Start);
-    assert_eq!(rt; machine.pending(1), Pending::Unborn);
+    assert_eq!(rt; machine.pending(&code, 0), Pending::Start);
+    assert_eq!(rt; machine.pending(&code, 1), Pending::Unborn);
     for (thread, end, pending, able, least) in TURNS.iter() {
         let (next, ended) = machine.turn(&code, &input, &[STORE], *thread, &mut left, &mut steps)?;
         machine = next;
-        machine.list_enabled(&mut enabled)?;
+        machine.list_enabled(&code, &mut enabled)?;
         assert_eq!(rt; ended, *end);
-        assert_eq!(rt; machine.pending(*thread), *pending);
+        assert_eq!(rt; machine.pending(&code, *thread), *pending);
         assert_eq!(rt; enabled.as_slice(), *able);
         assert_eq!(rt; left, *least);
     }
@@ -203,7 +202,7 @@ fn turn_of_main<L: Ledger>(
     input: &Input,
     steps: &mut Steps<L>,
 ) -> Result<Machine, NoMemory>
-    requires { Runs code.now machine }
+    requires { IsRunnable code.now }
 {
     let mut left = 100;
     let (machine, _) = machine.turn(code, input, &[], 0, &mut left, steps)?;

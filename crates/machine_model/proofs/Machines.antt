@@ -22,11 +22,11 @@ range-rises start count place within =
       get_or-range_with_len start count (place + 1) 0 (omega arith),
     )
 
-enabled-rises : (setting : Setting) (state : State) → IsStrictlyIncreasing (enabled setting state)
+enabled-rises : (setting : Setting) (state : State) → IsStrictlyIncreasing (enabled setting.code state)
 unfolding enabled
 enabled-rises setting state =
     let count = length state.threads in
-    IsStrictlyIncreasing-filter (is_enabled setting state) (range_with_len 0 count) (range-rises 0 count)
+    IsStrictlyIncreasing-filter (is_enabled setting.code state) (range_with_len 0 count) (range-rises 0 count)
 
 pub machine-is_system : (setting : Setting) → IsSystem (machine_of setting)
 machine-is_system setting = record {

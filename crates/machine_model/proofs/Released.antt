@@ -48,13 +48,13 @@ placed-runs shared number site decided None access is = refl
 placed-runs shared number site decided (Some placed) access is = inst-runs shared number site decided placed.inst access is
 
 frame-runs : (setting : Setting) (shared : Shared) (number : ℕ) (site : Site) (decided : List ℕ) (frame : Option Frame) (access : Access) →
-    access_of (pending_in setting.code site decided frame) ≡ Some access → waits_in setting shared number decided frame ≡ false
+    access_of (pending_in setting.code site decided frame) ≡ Some access → waits_in setting.code shared number decided frame ≡ false
 frame-runs setting shared number site decided None access is = refl
 frame-runs setting shared number site decided (Some frame) access is =
     placed-runs shared number site decided (next_in setting.code frame) access is
 
 access-runs : (setting : Setting) (shared : Shared) (number : ℕ) (thread : Thread) (operation : Operation) (access : Access) →
-    access_of (pending_operation setting.code thread operation) ≡ Some access → has_to_wait setting shared number thread operation ≡ false
+    access_of (pending_operation setting.code thread operation) ≡ Some access → has_to_wait setting.code shared number thread operation ≡ false
 unfolding has_to_wait pending_operation
 access-runs setting shared number thread Start access is = refl
 access-runs setting shared number thread (At site decided) access is = frame-runs setting shared number site decided (top thread) access is
@@ -102,15 +102,15 @@ Contains-filtered test (first ∷ others) thread (suc place, within, is) passes 
 
 -- and it is one of the enabled threads
 ready-enabled : (setting : Setting) (state : State) (number : ℕ) (access : Access) →
-    Ready setting state.threads number access → Contains (enabled setting state) number
+    Ready setting state.threads number access → Contains (enabled setting.code state) number
 unfolding enabled is_enabled
 ready-enabled setting state number access ready =
     let count = length state.threads in
     let within = slice_get_within state.threads number ready.thread ready.is in
     let long = length-range_with_len 0 count in
-    let passes : may_run setting (shared_of state) number (slice_get state.threads number) ≡ true =
+    let passes : may_run setting.code (shared_of state) number (slice_get state.threads number) ≡ true =
     rw (ready.is, ready.lasts, access-runs setting (shared_of state) number ready.thread ready.thread.pending access ready.accesses) refl in
-    Contains-filtered (is_enabled setting state) (range_with_len 0 count) number
+    Contains-filtered (is_enabled setting.code state) (range_with_len 0 count) number
     (number, omega (arith, within, long), get_or-range_with_len 0 count number number within ∙ zero-add number) passes
 
 not-ended : (over has_to_wait : Bool) → (not over && not has_to_wait) ≡ true → over ≡ false
@@ -119,23 +119,23 @@ not-ended false has_to_wait is = refl
 
 -- a thread that may run, with an access pending, is ready
 access-ready : (setting : Setting) (state : State) (number : ℕ) (access : Access) (thread : Option Thread) →
-    slice_get state.threads number ≡ thread → may_run setting (shared_of state) number thread ≡ true →
+    slice_get state.threads number ≡ thread → may_run setting.code (shared_of state) number thread ≡ true →
     access_of (pending_of setting.code thread) ≡ Some access → Ready setting state.threads number access
 access-ready setting state number access None is runs accesses = absurd (let h : ⊥ = cc in h)
 access-ready setting state number access (Some thread) is runs accesses = record {
   thread = thread;
   is = is;
-  lasts = not-ended (has_ended thread) (has_to_wait setting (shared_of state) number thread thread.pending) runs;
+  lasts = not-ended (has_ended thread) (has_to_wait setting.code (shared_of state) number thread thread.pending) runs;
   accesses = accesses;
 }
 
-pub may-run : (setting : Setting) (state : State) (number : ℕ) → Contains (enabled setting state) number →
-    may_run setting (shared_of state) number (slice_get state.threads number) ≡ true
+pub may-run : (setting : Setting) (state : State) (number : ℕ) → Contains (enabled setting.code state) number →
+    may_run setting.code (shared_of state) number (slice_get state.threads number) ≡ true
 unfolding enabled is_enabled
 may-run setting state number among =
     let threads = range_with_len 0 (length state.threads) in
-    All-contains (λ thread. is_enabled setting state thread ≡ true) (filter (is_enabled setting state) threads) number
-    (filter_passes (is_enabled setting state) threads) among
+    All-contains (λ thread. is_enabled setting.code state thread ≡ true) (filter (is_enabled setting.code state) threads) number
+    (filter_passes (is_enabled setting.code state) threads) among
 
 -- the turn of another thread leaves it so
 pub machine-keeps : (setting : Setting) (state : State) (number other left : ℕ) (access : Access) → number ≢ other →

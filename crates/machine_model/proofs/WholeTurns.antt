@@ -48,7 +48,7 @@ module _ (setting : Setting) (rows : HasRows setting.code) (number : ℕ) where
   Keeps state = Holds setting number state
 
   first-goes : (state : State) (thread : Thread) → Keeps state → Runs setting.code thread.frames →
-      IsNext setting.code (top thread) thread.pending → has_to_wait setting (shared_of state) number thread thread.pending ≡ false →
+      IsNext setting.code (top thread) thread.pending → has_to_wait setting.code (shared_of state) number thread thread.pending ≡ false →
       StepGoes Keeps (first_step setting state number thread thread.pending)
   unfolding first_step has_to_wait
   first-goes state thread holds runs = go thread.pending
@@ -57,7 +57,7 @@ module _ (setting : Setting) (rows : HasRows setting.code) (number : ℕ) where
       top_is = rw runs.only refl
 
       go : (operation : Operation) → IsNext setting.code (top thread) operation →
-          has_to_wait setting (shared_of state) number thread operation ≡ false →
+          has_to_wait setting.code (shared_of state) number thread operation ≡ false →
           StepGoes Keeps (first_step setting state number thread operation)
       go Start pends free = tt
       go (At site addresses) pends free =
@@ -98,17 +98,17 @@ module _ (setting : Setting) (rows : HasRows setting.code) (number : ℕ) where
           record { keeps = set-holds setting number state.threads number _ holds (λ live. rest.keeps); costs = rest.costs }
 
   pub turn-charged : (state : State) (left : ℕ) → ArePending setting.code state → All (IsSound setting.code) state.threads →
-      may_run setting (shared_of state) number (slice_get state.threads number) ≡ true →
+      may_run setting.code (shared_of state) number (slice_get state.threads number) ≡ true →
       IsCharged Keeps (turn setting state number left) (charges setting state number left)
   unfolding turn charges
   turn-charged state left pend sound may = go (slice_get state.threads number) refl may
     where
-      go : (thread : Option Thread) → slice_get state.threads number ≡ thread → may_run setting (shared_of state) number thread ≡ true →
+      go : (thread : Option Thread) → slice_get state.threads number ≡ thread → may_run setting.code (shared_of state) number thread ≡ true →
           IsCharged Keeps (turn_of setting state number left thread) (charges_of_turn setting state number left thread)
       go None is may = absurd (let h : ⊥ = cc in h)
       go (Some thread) is may =
           let holds : Keeps state = record { sound = sound; inside = slice_get_within state.threads number thread is } in
-          let parts = and_parts (not (has_ended thread)) (not (has_to_wait setting (shared_of state) number thread thread.pending)) may in
+          let parts = and_parts (not (has_ended thread)) (not (has_to_wait setting.code (shared_of state) number thread thread.pending)) may in
           let live = not-true (has_ended thread) parts.0 in
           paid-charged Keeps (rest_of_turn setting number)
           (λ after rest. charges_of_rest setting number after rest (slice_get after.threads number)) state left holds
@@ -117,4 +117,4 @@ module _ (setting : Setting) (rows : HasRows setting.code) (number : ℕ) where
           (first-goes state thread holds
           (All-slice_get (IsSound setting.code) state.threads number thread sound is live)
           (All-slice_get (IsPending setting.code) state.threads number thread pend is live)
-          (not-true (has_to_wait setting (shared_of state) number thread thread.pending) parts.1))
+          (not-true (has_to_wait setting.code (shared_of state) number thread thread.pending) parts.1))

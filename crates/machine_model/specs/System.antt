@@ -41,7 +41,7 @@ thread_has_ended (Some thread) = has_ended thread
 abbrev pub machine_of : Setting → System State
 machine_of setting = record {
   start = started setting.code;
-  enabled = enabled setting;
+  enabled = enabled setting.code;
   turn = turn setting;
   pending = pending_of_state setting.code;
   ended = λ state number. thread_has_ended (slice_get state.threads number);

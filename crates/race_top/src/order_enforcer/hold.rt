@@ -7,6 +7,7 @@ ghost use Rattle.machine_model.specs.Reach.{does_second, is_second};
 ghost use Rattle.machine_model.specs.Repeat.{Snapshot};
 ghost use Rattle.machine_model.specs.Run.{Course as Seen};
 ghost use Rattle.machine_model.specs.Run.Advance.{Onward};
+ghost use Rattle.machine_model.specs.Runnable.{IsRunnable};
 ghost use Rattle.machine_model.specs.Setting.{Setting};
 ghost use Rattle.machine_model.specs.System.{machine_of};
 ghost use Rattle.machine_model.specs.declared.state.State.{State};
@@ -54,11 +55,12 @@ fn is_second(race: &Race, first: Access, access: Option<Access>) -> bool
 }
 
 /// Whether the turn of a thread does the race's second access.
-fn does_second(race: &Race, first: Access, course: &Course, thread: u32) -> bool
-    ensures { (setting : Setting) (case : Case) → IsOf setting.code case course.now →
+fn does_second(race: &Race, first: Access, course: &Course, code: &Module, thread: u32) -> bool
+    requires { IsRunnable code.now }
+    ensures { (setting : Setting) → setting.code ≡ code.now →
         result ≡ does_second (machine_of setting) race.now first (record { before = course_of course.now; thread = thread }) }
 {
-    thread == race.t2 && is_second(race, first, course.access(thread))
+    thread == race.t2 && is_second(race, first, course.access(code, thread))
 }
 
 /// How a hold ends whose last turn was the last of the run.
@@ -124,10 +126,10 @@ fn hold_turn<L: Ledger>(
     if course.machine.has_ended(race.t2) {
         return Ok(give_up(course, Reason::Diverged));
     }
-    let Some(thread) = course.choose()? else {
+    let Some(thread) = course.choose(code)? else {
         return Ok(give_up(course, Reason::Stuck));
     };
-    let done = does_second(race, first, &course, thread);
+    let done = does_second(race, first, &course, code, thread);
     match course.take(code, case, input, thread, steps)? {
         Advance::Onward(next) => {
             let advance = go_on(next, past, done)?;

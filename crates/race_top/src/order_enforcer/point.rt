@@ -45,15 +45,16 @@ fn number_after(number: u32, thread: u32, race: &Race) -> Option<u32>
 }
 
 /// The hold point before a turn of this thread, if the turn does an access.
-fn point_of(course: Course, past: Past, thread: u32) -> Option<Point>
-    ensures point { (setting : Setting) (case : Case) (snapshots : List (Snapshot State)) →
-        IsOf setting.code case course → Recalls snapshots past →
+fn point_of(course: Course, past: Past, code: &Module, thread: u32) -> Option<Point>
+    requires { IsRunnable code.now }
+    ensures point { (setting : Setting) (snapshots : List (Snapshot State)) → setting.code ≡ code.now →
+        Recalls snapshots past →
         let moment : Moment State = record { before = course_of course; thread = thread } in
         FindsPoint result (point_at snapshots moment (access_at (machine_of setting) moment)) }
     ensures course { IfSome result (λ point. point.course ≡ course) }
     ensures past { IfSome result (λ point. point.past ≡ past) }
 {
-    let Some(first) = course.access(thread) else {
+    let Some(first) = course.access(code, thread) else {
         return None;
     };
     Some(Point {
@@ -85,11 +86,11 @@ pub fn find_point<L: Ledger>(
     // Each turn costs at least 1, or is cut.
     let most = u64::from(case.steps) + 1;
     for _ in 0..most {
-        let Some(thread) = course.peek()? else {
+        let Some(thread) = course.peek(code)? else {
             return Ok(None);
         };
         match number_after(number, thread, race) {
-            None => return Ok(point_of(course, past, thread)),
+            None => return Ok(point_of(course, past, code, thread)),
             Some(rest) => number = rest,
         }
         match course.advance(code, case, input, steps)? {

@@ -41,13 +41,14 @@ pub struct Due {
 
 impl Due {
     /// What is seen of the turn.
-    fn see(&self) -> Seen
-        ensures { (setting : Setting) (case : Case) (policy : Policy) → IsOf setting.code case self.now.course →
+    fn see(&self, code: &Module) -> Seen
+        requires { IsRunnable code.now }
+        ensures { (setting : Setting) (policy : Policy) → setting.code ≡ code.now →
             IsSeen (machine_of setting) (moment_due policy self.now) result }
     {
         Seen {
             thread: self.thread,
-            access: self.course.access(self.thread),
+            access: self.course.access(code, self.thread),
         }
     }
 
@@ -121,7 +122,7 @@ fn due_turn<L: Ledger>(
     let Some(mut course) = go_on(course, most, place, code, case, steps)? else {
         return Ok(None);
     };
-    let Some(thread) = course.choose()? else {
+    let Some(thread) = course.choose(code)? else {
         return Ok(None);
     };
     Ok(Some(Due { course, thread }))
@@ -163,7 +164,7 @@ pub fn see_pair<L: Ledger>(
     let Some(due) = due_turn(start, most, first - 1, code, case, &mut steps)? else {
         return Ok(None);
     };
-    let one = due.see();
+    let one = due.see(code);
     let count = count_turns(&due.course.turns, due.thread) as u32 + 1;
     let Some(next) = due.take(code, case, &mut steps)? else {
         return Ok(None);
@@ -175,6 +176,6 @@ pub fn see_pair<L: Ledger>(
     Ok(Some(Pair {
         one,
         count,
-        other: last.see(),
+        other: last.see(code),
     }))
 }

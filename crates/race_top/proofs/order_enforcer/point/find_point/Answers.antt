@@ -38,7 +38,7 @@ returns-in_default-clause-point g c =
     let case = c.args.case.now in
     let setting = setting_of c.args.code.now case c.args.input.now in
     let system = machine_of setting in
-    let none = none-chosen _ (rw c.in_default.is at (c.in_ok-thread.ensures.thread setting case c.loop.invariant.of)) in
+    let none = none-chosen _ (rw c.in_default.is at (c.in_ok-thread.ensures.thread case c.loop.invariant.of)) in
     let ended = moments-none (c.from-most.result + 1 - c.loop.counter) system case.turns (course_of c.loop.course) none in
     point-none c.args.code.now case c.args.race.now c.args.input.now c.loop.number _
     (c.loop.invariant.rest ∙ ended) c.loop.invariant.from
@@ -55,8 +55,8 @@ returns-in-None-clause-point g c =
     let left = c.from-most.result + 1 - c.loop.counter in
     let rest = c.from-most.result + 1 - (c.loop.counter + 1) in
     let before = course_of c.loop.course in
-    let chosen = thread-chosen (choose case.turns before.policy (enabled setting before.state)) c.in-Some.thread
-    (rw c.in-Some.is at (c.in_ok-thread.ensures.thread setting case c.loop.invariant.of)) in
+    let chosen = thread-chosen (choose case.turns before.policy (enabled setting.code before.state)) c.in-Some.thread
+    (rw c.in-Some.is at (c.in_ok-thread.ensures.thread case c.loop.invariant.of)) in
     let choice : Choice = record { thread = c.in-Some.thread; next = chosen.0 } in
     let moment : Moment State = record { before = before; thread = c.in-Some.thread } in
     let later = onward_or_none (moments_from rest system case.turns) (advanced_with system before (Some choice)) in
@@ -72,15 +72,15 @@ returns-in-None-clause-point g c =
     FindsPoint c.point_of.result (point_at past one (access_at system one)) in
     subst (FindsPoint c.point_of.result) (sym (point-here code case race input c.loop.counter moment later here from))
     (subst finds c.in_ok-thread.ensures.same
-    (c.point_of.ensures.point setting case past (c.in_ok-thread.ensures.of code case c.loop.invariant.of) c.loop.invariant.past))
+    (c.point_of.ensures.point setting past refl c.loop.invariant.past))
 
 pub returns-in-None-clause-of : goal.returns-in-None-clause-of
 returns-in-None-clause-of g c =
     point-of c.args.code.now c.args.case.now c.point_of.result c.peek.new.self
-    (c.in_ok-thread.ensures.of c.args.code.now c.args.case.now c.loop.invariant.of) c.point_of.ensures.course
+    (c.in_ok-thread.ensures.of c.args.case.now c.loop.invariant.of) c.point_of.ensures.course
 
 pub advance-requires : goal.advance-requires
-advance-requires g c = c.in_ok-thread.ensures.of c.args.code.now c.args.case.now c.loop.invariant.of
+advance-requires g c = c.in_ok-thread.ensures.of c.args.case.now c.loop.invariant.of
 
 pub returns-in-Over-clause-point : goal.returns-in-Over-clause-point
 returns-in-Over-clause-point g c =
@@ -94,8 +94,8 @@ returns-in-Over-clause-point g c =
     let left = c.from-most.result + 1 - c.loop.counter in
     let rest = c.from-most.result + 1 - (c.loop.counter + 1) in
     let before = course_of c.loop.course in
-    let chosen = thread-chosen (choose case.turns before.policy (enabled setting before.state)) c.in-Some.thread
-    (rw c.in-Some.is at (c.in_ok-thread.ensures.thread setting case c.loop.invariant.of)) in
+    let chosen = thread-chosen (choose case.turns before.policy (enabled setting.code before.state)) c.in-Some.thread
+    (rw c.in-Some.is at (c.in_ok-thread.ensures.thread case c.loop.invariant.of)) in
     let choice : Choice = record { thread = c.in-Some.thread; next = chosen.0 } in
     let moment : Moment State = record { before = before; thread = c.in-Some.thread } in
     let later = onward_or_none (moments_from rest system case.turns) (advanced_with system before (Some choice)) in
@@ -127,7 +127,7 @@ loop-preserved g c =
     let goes = moments-onward left rest system case.turns before next (omega (arith, c.loop-test.true))
     (ap (advanced system case.turns) (sym c.in_ok-thread.ensures.same) ∙ rw c.in-Onward.is at c.in_ok-next.ensures.course) in
     let same : goes.choice.thread ≡ c.in-Some.thread =
-    let told = rw (c.in-Some.is, goes.is) at (c.in_ok-thread.ensures.thread setting case c.loop.invariant.of) in cc in
+    let told = rw (c.in-Some.is, goes.is) at (c.in_ok-thread.ensures.thread case c.loop.invariant.of) in cc in
     let here : drop c.loop.counter moments ≡ moment ∷ later =
     c.loop.invariant.rest ∙ goes.moments ∙ ap (λ thread. record { before = before; thread = thread } ∷ later) same in
     let on : drop (c.loop.counter + 1) moments ≡ later = drop-next moments c.loop.counter moment later here in

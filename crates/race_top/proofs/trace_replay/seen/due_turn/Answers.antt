@@ -12,7 +12,7 @@ returns-in_default-2-clause-left g c =
     let setting = setting_of c.args.code.now case case.input in
     let system = machine_of setting in
     let left = rw c.in-Some.is at c.in_ok-course.ensures.left in
-    let chosen = c.in_ok-thread.ensures.chosen setting case (rw c.in-Some.is at c.in_ok-course.ensures.of) in
+    let chosen = c.in_ok-thread.ensures.chosen case (rw c.in-Some.is at c.in_ok-course.ensures.of) in
     let none = rw c.in_default-2.is at chosen in
     left ∙ moments-none (c.args.most - c.args.place) system case.turns (course_of c.in-Some.course) none.0
 
@@ -23,7 +23,7 @@ returns-clause-left g c =
     let system = machine_of setting in
     let left = rw c.in-Some.is at c.in_ok-course.ensures.left in
     let within = rw c.in-Some.is at c.in_ok-course.ensures.within in
-    let chosen = rw c.in-Some-2.is at c.in_ok-thread.ensures.chosen setting case (rw c.in-Some.is at c.in_ok-course.ensures.of) in
+    let chosen = rw c.in-Some-2.is at c.in_ok-thread.ensures.chosen case (rw c.in-Some.is at c.in_ok-course.ensures.of) in
     let before = course_of c.in-Some.course in
     let after = course_of c.choose.new.self in
     let rest = c.args.most - (c.args.place + 1) in
@@ -38,15 +38,14 @@ returns-clause-taken g c =
     let case = c.args.case.now in
     let setting = setting_of c.args.code.now case case.input in
     let taken = rw c.in-Some.is at c.in_ok-course.ensures.taken in
-    let chosen = rw c.in-Some-2.is at c.in_ok-thread.ensures.chosen setting case (rw c.in-Some.is at c.in_ok-course.ensures.of) in
+    let chosen = rw c.in-Some-2.is at c.in_ok-thread.ensures.chosen case (rw c.in-Some.is at c.in_ok-course.ensures.of) in
     ap (λ course. course.turns) chosen.1 ∙ taken
 
 pub returns-clause-may_take : goal.returns-clause-may_take
 returns-clause-may_take g c =
-    let code = c.args.code.now in
     let case = c.args.case.now in
     let of = rw c.in-Some.is at c.in_ok-course.ensures.of in
     record {
-      of = c.in_ok-thread.ensures.of code case of;
-      few = rw c.in-Some-2.is at c.in_ok-thread.ensures.few code case of;
+      of = c.in_ok-thread.ensures.of case of;
+      few = rw c.in-Some-2.is at c.in_ok-thread.ensures.few;
     }

@@ -84,8 +84,8 @@ returns g c =
           c.in-Some-2.next (omega arith) (omega arith) (omega (arith, c.from.ensures))
           (due.0, first) (rw c.in-Some-2.is at c.in_ok-next.ensures.left rest)
           ∙ slice_get-here (recorded_from code case rest (course_of c.in-Some-2.next)) (c.args.second - c.args.first - 1) _ _ last.1;
-      sees_one = c.see-one.ensures setting case due.0 (rw c.in-Some.is at c.in_ok-due.ensures.may_take).of;
-      sees_other = c.see.ensures setting case last.0 (rw c.in-Some-3.is at c.in_ok-last.ensures.may_take).of;
+      sees_one = c.see-one.ensures setting due.0 refl;
+      sees_other = c.see.ensures setting last.0 refl;
       count = first-count code case moments (most - (c.args.first - 1 + 1)) c.args.first c.in-Some.due due.0 c.count_turns.result
           (omega arith) first
           (from-start _ _ _ turns taken ∙ ap (λ whole. threads_of (take (c.args.first - 1) whole)) begun)
