@@ -14,7 +14,7 @@ IsComment (first ∷ rest) = first ≡ 59
 abbrev pub NameEnds : List ℕ → List ℕ → Type 0
 NameEnds text rest = (slice_index text 1 ≡ 34) ⊎ (prefix_len is_name_byte rest ≡ 0)
 
--- a token of the kind is no longer than its text
+-- what follows can't belong to the token; of a quoted name and of a mark nothing is said
 abbrev pub EndsBefore : TokenKind → List ℕ → List ℕ → Type 0
 EndsBefore kinds.Local text rest = NameEnds text rest
 EndsBefore kinds.Global text rest = NameEnds text rest

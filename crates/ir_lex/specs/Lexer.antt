@@ -41,7 +41,7 @@ name_len (first ∷ rest) = if first == 34 then quoted_len rest else prefix_len 
 abbrev pub signed : TokenKind → ℕ → List ℕ → TokenKind × ℕ
 signed kind len rest = if len == 0 then (kinds.Other, length rest) else (kind, len)
 
--- The kind of the longest token that begins with a byte, and how many of the bytes after it belong to it. What
+-- The kind of the token that begins with a byte, and how many of the bytes after it belong to it. What
 -- begins no token of another kind takes all the rest of the line.
 unfoldable pub extent_of : ℕ → List ℕ → TokenKind × ℕ
 extent_of first rest =

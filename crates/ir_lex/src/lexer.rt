@@ -102,7 +102,7 @@ fn after_blanks(bytes: &[u8]) -> &[u8]
     rest
 }
 
-/// The kind of the longest token that begins with `first`, and how many bytes of `rest` belong to it.
+/// The kind of the token that begins with `first`, and how many bytes of `rest` belong to it.
 #[tactic(auto, unfolding(crate::specs::Lexer::extent_of))]
 fn extent(first: u8, rest: &[u8]) -> (TokenKind, usize)
     ensures value { result ≡ extent_of first rest.now }

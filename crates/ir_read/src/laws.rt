@@ -7,7 +7,8 @@ ghost use Rattle.ir_lex.specs.Lexer.{tokens_of};
 ghost use Rattle.ir_read.specs.Line.{line_of};
 ghost use Rattle.ir_read.specs.Spelling.{IsNamedWell, Spells, spelling};
 
-/// A line has a form exactly where its tokens spell that form.
+/// A line has a form exactly where its tokens spell that form and, if the form defines a thread's function, its name
+/// is plain, not empty and not `main`.
 pub fn form_is_its_spelling()
     ensures read { (form : Form) (line : List ℕ) → Spells (spelling form) (tokens_of line) → IsNamedWell form → line_of line ≡ readings.Form form }
     ensures spelled { (form : Form) (line : List ℕ) → line_of line ≡ readings.Form form → Spells (spelling form) (tokens_of line) × IsNamedWell form }

@@ -5,7 +5,7 @@
 //! - `operands`: what the next tokens of a line say
 //! - `names`: the names that tokens spell
 //! - `literals`: the numbers that tokens write
-//! - `laws`: a line has the form that its tokens spell
+//! - `laws`: which lines have a form
 #![tactic(auto)]
 
 mod forms;

@@ -65,8 +65,8 @@ pub fn larger_budget_keeps_run()
     ensures { (setting : Setting) → LargerBudgetKeepsRun (machine_of setting) }
 {}
 
-/// The chooser picks an enabled thread that it may choose wherever there is one: the listed one where that is
-/// such a thread, else the next by number.
+/// The chooser picks an enabled thread that it may choose wherever there is one: the next listed one where that is
+/// such a thread. Before a hold it is the next by number where no thread of the rest of the list is enabled.
 pub fn chooser_follows_the_list()
     ensures enabled { ChoiceIsEnabled }
     ensures some { ChoosesUnlessNone }
@@ -90,7 +90,7 @@ pub fn moments_are_turns()
     ensures unrepeated { (setting : Setting) → UnrepeatedIsRun (machine_of setting) }
 {}
 
-/// What a run prints can be replayed: its turns, recorded, give the same run again.
+/// The turns of a run, recorded, give the same run again, however many they are.
 pub fn turns_give_the_run()
     ensures { (setting : Setting) → TurnsGiveTheRun (machine_of setting) }
 {
@@ -124,7 +124,7 @@ pub fn jobs_replay()
     ensures alternate { AlternateReplays }
 {}
 
-/// Memory gives back what was stored.
+/// A load gives the lowest bytes of what was stored in its range.
 pub fn stored_is_loaded()
     ensures { StoredIsLoaded }
 {}
@@ -143,8 +143,8 @@ pub fn shapes_are_decided()
     ensures waits { WaitsHaveShapes }
 {}
 
-/// Live objects don't overlap: where the globals don't, the objects of every moment of a run don't, since stores, the
-/// death of objects and turns keep it. Then at most one object has a range of bytes.
+/// Live objects don't overlap: where the globals don't, the objects of every moment of a run that follows a list don't,
+/// since stores, the death of objects and turns keep it. Then at most one object has a range of bytes.
 pub fn objects_are_apart()
     ensures range { OneHasRange }
     ensures store { StoreKeepsApart }

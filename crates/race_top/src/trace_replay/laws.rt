@@ -7,7 +7,8 @@ ghost use Rattle.race_top.specs.ReplayLaws.{ListedAreTaken, RefusedIsNotEnabled,
 
 use machine_model::laws::chooser_follows_the_list;
 
-/// The refusals are exact: a run that was not spent takes its own turns, and what is not refused was taken.
+/// A run that was not spent takes its own turns, and a list of which nothing is refused stands at the front of the
+/// run's turns.
 pub fn refusals_are_exact()
     ensures own { RunTakesItsTurns }
     ensures taken { (setting : Setting) → ListedAreTaken (machine_of setting) }
