@@ -1,0 +1,33 @@
+//! Laws of the definitions. No function here does anything; each one's contract is a theorem.
+
+ghost use Rattle.std.specs.Prelude.{◌≡◌, ℕ, ◌<◌, List, ◌∷◌, ◌++◌, decimal, Some};
+ghost use Rattle.std.specs.List.{AllByRecursion, join_with_byte};
+ghost use Rattle.text_lines.specs.Number.{cut, number_of};
+ghost use Rattle.text_lines.specs.Part.{Lacks, lines_text, parts_of};
+ghost use Rattle.text_lines.specs.RunWord.{IsUncut, run_text, run_word_of};
+ghost use Rattle.text_lines.specs.declared.run_word.RunWord.{RunWord as Word};
+
+/// The parts of a text, joined by the byte, are the text, and parts that are joined are the parts again.
+pub fn parts_are_joined()
+    ensures joined { (byte : ℕ) (text : List ℕ) → join_with_byte byte (parts_of byte text) ≡ text }
+    ensures parted { (byte : ℕ) (part : List ℕ) (parts : List (List ℕ)) → Lacks byte part → AllByRecursion (Lacks byte) parts →
+        parts_of byte (join_with_byte byte (part ∷ parts)) ≡ part ∷ parts }
+{}
+
+/// Lines with their line feeds, before any text, are parts of it.
+pub fn lines_are_parts()
+    ensures { (lines : List (List ℕ)) (rest : List ℕ) → AllByRecursion (Lacks 10) lines →
+        parts_of 10 (lines_text lines ++ rest) ≡ lines ++ parts_of 10 rest }
+{}
+
+/// The one word of a number that is not cut is its decimal.
+pub fn numbers_are_decimal()
+    ensures spelled { (number : ℕ) → number < cut → number_of (decimal number) ≡ Some number }
+    ensures only { (number : ℕ) (word : List ℕ) → number < cut → number_of word ≡ Some number → word ≡ decimal number }
+{}
+
+/// A run that is spelled is read back, and the word of a run whose numbers are not cut is its spelling.
+pub fn runs_are_spelled()
+    ensures spelled { (run : Word) → IsUncut run → run_word_of (run_text run) ≡ Some run }
+    ensures only { (run : Word) (word : List ℕ) → IsUncut run → run_word_of word ≡ Some run → word ≡ run_text run }
+{}
