@@ -1,69 +1,150 @@
 -- A text that is the lines of a case is accepted as that case.
-use Rattle.std.proofs.Common.{◌≡◌, ℕ, ◌*◌, ◌^◌, ◌≤◌, le-ltb, List, [], ◌∷◌, ◌++◌, Ok, refl, ap, ◌∙◌, sym}
-use Rattle.std.proofs.Props.{props}
-use mathlib.Core.HLevel.{is_prop→PathP}
-use Rattle.ir_types.specs.declared.input.Input.{Input, rising-type}
+use Rattle.std.proofs.Common.{◌≡◌, ℕ, ◌+◌, ◌*◌, ◌^◌, ◌<◌, ◌≤◌, le-leb, le-ltb, lt-ltb, List, [], ◌∷◌, ◌++◌, length, map, Option, Some, None, Ok, refl, ap, ◌∙◌, sym, subst, arith, append_assoc, append-nil, length-append}
+use Rattle.std.specs.List.{AllByRecursion, IsDistinct, flat_map}
+use Rattle.ir_types.specs.declared.instruction.Site.{Site}
 use Rattle.ir_types.specs.declared.«module».Module.{Module}
+use Rattle.machine_model.specs.Access.{is_site as sites_equal}
 use Rattle.machine_model.specs.declared.case.Case.{Case}
-use Rattle.case_text.specs.declared.field.Field.TheVariants.{Seed, Steps, Visits, Paths, Schedules}
-use Rattle.case_text.specs.declared.field.Fields.{Fields}
-use Rattle.case_text.specs.Body.{Body, body_of}
-use Rattle.case_text.specs.Field.{fields_of}
-use Rattle.case_text.specs.Input.{no_input}
-use Rattle.case_text.specs.Line.{lines_of}
-use Rattle.case_text.specs.Read.{case_of, case_with, heading_of}
-use Rattle.case_text.specs.Spelling.{RunWord, Spells, case_text, field_line}
-use Rattle.case_text.specs.Watch.{WatchWords}
-use Rattle.case_text.proofs.Bodies.{body_again, body_lines}
-use Rattle.case_text.proofs.Headings.{fields_again, heading_again}
-use Rattle.case_text.proofs.PairLines.{pairs_stepped}
-use Rattle.case_text.proofs.TurnLines.{turns_stepped}
-use Rattle.case_text.proofs.WatchLines.{sites_stepped}
+use Rattle.case_text.specs.declared.keyword.Field.{Field as OneNumber}
+use Rattle.case_text.specs.declared.keyword.Field.TheVariants.{Seed, Steps, Visits, Paths, Schedules}
+use Rattle.case_text.specs.declared.keyword.Keyword.{Keyword}
+use Rattle.case_text.specs.declared.keyword.Keyword.TheVariants as keywords
+use Rattle.case_text.specs.declared.line.Line.{Line}
+use Rattle.case_text.specs.declared.line.Line.TheVariants.{Heading, Field, Input, Watch, Turns, Race, End}
+use Rattle.case_text.specs.Keyword.{after_field, least_of, most_of, rank_of}
+use Rattle.case_text.specs.Laws.{AreInOrder, HasRoom, IsBodyLine, Spells, case_lines, races_in, turns_in, watched_in}
+use Rattle.case_text.specs.Line.{IsForm, keyword_in, line_text}
+use Rattle.case_text.specs.Progress.{no_case, no_input, progress, start, step, with_field, with_line}
+use Rattle.case_text.specs.Read.{case_of, lines_from}
+use Rattle.case_text.specs.Watch.{site_of}
+use Rattle.text_lines.specs.Part.{lines_text, parts_of}
+use Rattle.text_lines.specs.RunWord.{run_turns}
+use Rattle.text_lines.proofs.Joined.{lines_parted}
+use Rattle.case_text.proofs.Accepted.{grown, grown_none}
+use Rattle.case_text.proofs.Made.{same_input}
+use Rattle.case_text.proofs.Sites.{apart_before}
+use Rattle.case_text.proofs.Steps.{runs_again, site_again}
+use Rattle.case_text.proofs.Taken.{LeadTo, lines_again, stands_again, stands_same, stepped}
 
--- the slots alone tell inputs apart
-same_input : (x y : Input) → x.slots ≡ y.slots → x ≡ y
-same_input x y same = λ i. record {
-  slots = same i;
-  rising = is_prop→PathP {0} (λ j. rising-type (same j)) (λ j. hlevel props) x.rising y.rising i;
-}
+-- lines between the head and the end, and the end, lead to the case that they make
+body_leads : (code : Module) (body : List Line) (first : Keyword) (case : Case) (sites : List Site) (number : ℕ) (whole : Case) →
+    6 ≤ rank_of first → AllByRecursion IsBodyLine body → AreInOrder first body →
+    map Some sites ≡ map (site_of code) (flat_map watched_in body) →
+    whole ≡ grown case sites (flat_map turns_in body) (flat_map races_in body) →
+    HasRoom whole → rank_of first ≤ 10 → case.visits * case.steps ≤ 2 ^ 24 →
+    LeadTo code (progress (Some first) case) number (body ++ End ∷ []) whole
+body_leads code [] first case [] number whole low each order sites is room high product = (
+  progress None case,
+  stepped code (progress (Some first) case) number End (progress None case) (stands_again (rank_of first) 10 low high) (rw (le-ltb _ _ product) refl),
+  (refl, sym (is ∙ grown_none case)),
+)
+body_leads code [] first case (site ∷ sites) number whole low each order are is room high product = cc
+body_leads code (Watch words ∷ body) first case [] number whole low each order are is room high product = cc
+body_leads code (Watch words ∷ body) first case (site ∷ sites) number whole low each order are is room high product =
+    let more : List Site = case.watch ++ site ∷ [] in
+    let found : site_of code words ≡ Some site = cc in
+    let others : map Some sites ≡ map (site_of code) (flat_map watched_in body) = cc in
+    let few : length case.watch < 256 = omega (arith, room.watch, ap (λ (c : Case). length c.watch) is, length-append case.watch (site ∷ sites)) in
+    let apart = apart_before case.watch sites site (subst (λ (c : Case). IsDistinct sites_equal c.watch) is room.distinct) in
+    let after = progress (Some keywords.Watch) (record case { watch = more }) in (
+      after,
+      stepped code (progress (Some first) case) number (Watch words) after (stands_again (rank_of first) 7 low order.0)
+          (rw (site_again code number words case.watch site each.0.1 few found apart) refl),
+      body_leads code body keywords.Watch (record case { watch = more }) sites (number + 1) whole (omega arith) each.1 order.1 others
+          (is ∙ (λ i. record case {
+            watch = sym (append_assoc case.watch (site ∷ []) sites) i;
+            turns = case.turns ++ flat_map turns_in body;
+            races = case.races ++ flat_map races_in body;
+          })) room (omega arith) product,
+    )
+body_leads code (Turns runs ∷ body) first case sites number whole low each order are is room high product =
+    let added : List ℕ = flat_map run_turns runs in
+    let few : length (case.turns ++ added) ≤ 20000 =
+    omega (arith, room.turns, ap (λ (c : Case). length c.turns) is, length-append case.turns (added ++ flat_map turns_in body), length-append case.turns added, length-append added (flat_map turns_in body)) in
+    let after = progress (Some keywords.Turn) (record case { turns = case.turns ++ added }) in (
+      after,
+      stepped code (progress (Some first) case) number (Turns runs) after (stands_again (rank_of first) 8 low order.0)
+          (rw (runs_again runs case.turns each.0.1 few) refl),
+      body_leads code body keywords.Turn (record case { turns = case.turns ++ added }) sites (number + 1) whole (omega arith) each.1 order.1 are
+          (is ∙ (λ i. record case {
+            watch = case.watch ++ sites;
+            turns = sym (append_assoc case.turns added (flat_map turns_in body)) i;
+            races = case.races ++ flat_map races_in body;
+          })) room (omega arith) product,
+    )
+body_leads code (Race a b ∷ body) first case sites number whole low each order are is room high product =
+    let small : a < 2 ^ 32 = each.0.0 in
+    let other : b < 2 ^ 32 = each.0.1 in
+    let few : length case.races < 1 =
+    omega (arith, room.races, ap (λ (c : Case). length c.races) is, length-append case.races ((a, b) ∷ flat_map races_in body)) in
+    let after = progress (Some keywords.Race) (record case { races = case.races ++ (a, b) ∷ [] }) in (
+      after,
+      stepped code (progress (Some first) case) number (Race a b) after (stands_again (rank_of first) 9 low order.0)
+          (rw (lt-ltb _ _ small, lt-ltb _ _ other, lt-ltb _ _ few) refl),
+      body_leads code body keywords.Race (record case { races = case.races ++ (a, b) ∷ [] }) sites (number + 1) whole (omega arith) each.1 order.1 are
+          (is ∙ (λ i. record case {
+            watch = case.watch ++ sites;
+            turns = case.turns ++ flat_map turns_in body;
+            races = sym (append_assoc case.races ((a, b) ∷ []) (flat_map races_in body)) i;
+          })) room (omega arith) product,
+    )
+body_leads code (Heading ∷ body) first case sites number whole low each order are is room high product = absurd each.0
+body_leads code (Field field value ∷ body) first case sites number whole low each order are is room high product = absurd each.0
+body_leads code (Input words ∷ body) first case sites number whole low each order are is room high product = absurd each.0
+body_leads code (End ∷ body) first case sites number whole low each order are is room high product = absurd each.0
 
-case_steps : (code : Module) (text : List ℕ) (heading behind : List (List ℕ)) (fields : Fields) (body : Body) →
-    heading_of (lines_of text) ≡ Ok heading → fields_of heading ≡ Ok (fields, behind) → body_of code behind ≡ Ok body →
-    body.rest ≡ [] ∷ [] → fields.visits * fields.steps ≤ 2 ^ 24 → case_of code text ≡ Ok (case_with fields body)
-unfolding case_of
-case_steps code text heading behind fields body is_heading is_fields is_body nothing product =
-    rw (is_heading, is_fields, is_body, nothing, le-ltb _ _ product) refl
+body_forms : (body : List Line) → AllByRecursion IsBodyLine body → AllByRecursion IsForm (body ++ End ∷ [])
+body_forms [] each = (tt, tt)
+body_forms (Watch words ∷ body) each = (each.0.0, body_forms body each.1)
+body_forms (Turns runs ∷ body) each = (each.0.0, body_forms body each.1)
+body_forms (Race a b ∷ body) each = (tt, body_forms body each.1)
+body_forms (Heading ∷ body) each = absurd each.0
+body_forms (Field field value ∷ body) each = absurd each.0
+body_forms (Input words ∷ body) each = absurd each.0
+body_forms (End ∷ body) each = absurd each.0
 
-abbrev fields_in : Case → Fields
-fields_in case = record { seed = case.seed; steps = case.steps; visits = case.visits; paths = case.paths; schedules = case.schedules }
+field_leads : (code : Module) (field : OneNumber) (value : ℕ) (case : Case) (number : ℕ) (rest : List Line) (whole : Case) →
+    least_of field ≤ value → value ≤ most_of field →
+    LeadTo code (progress (Some (after_field field)) (with_field field value case)) (number + 1) rest whole →
+    LeadTo code (progress (Some (keywords.Field field)) case) number (Field field value ∷ rest) whole
+field_leads code field value case number rest whole low high lead = (
+  progress (Some (after_field field)) (with_field field value case),
+  stepped code (progress (Some (keywords.Field field)) case) number (Field field value) _ (stands_same (rank_of (keywords.Field field)))
+      (rw (le-leb _ _ low, le-leb _ _ high) refl),
+  lead,
+)
 
-abbrev fields_text : Case → List ℕ → List ℕ
-fields_text case behind =
-    field_line Seed case.seed
-    ++ (field_line Steps case.steps
-    ++ (field_line Visits case.visits
-    ++ (field_line Paths case.paths
-    ++ (field_line Schedules case.schedules
-    ++ behind))))
-
-abbrev body_in : Case → ℕ → Body
-body_in case line = record { watch = case.watch; turns = case.turns; races = case.races; line = line; rest = [] ∷ [] }
-
-case_made : (case : Case) (line : ℕ) → case.input.slots ≡ [] → case_with (fields_in case) (body_in case line) ≡ case
-case_made case line no_slots = ap (λ input. record case { input = input }) (same_input no_input case.input (sym no_slots))
-
-pub spelled : (code : Module) (text : List ℕ) (case : Case) (watches : List WatchWords) (lines : List (List RunWord)) →
-    Spells code text case watches lines → case_of code text ≡ Ok case
-spelled code text case watches lines spells =
+case_leads : (code : Module) (text : List ℕ) (case : Case) (body : List Line) → Spells code text case body →
+    LeadTo code start 1 (case_lines case body) case
+case_leads code text case body spells =
     let bounds = spells.bounds in
-    let behind : List ℕ = body_lines watches lines case.races in
-    let body = body_again code watches lines case.watch case.turns case.races
-    (sites_stepped code watches [] case.watch case.watch spells.sites_are spells.watch_lines refl bounds.watch bounds.distinct)
-    (turns_stepped lines [] case.turns spells.turn_lines spells.turns_are bounds.turns)
-    (pairs_stepped case.races [] case.races bounds.race_lines refl bounds.races) in
-    ap (case_of code) spells.text_is
-    ∙ case_steps code (case_text case watches lines) _ _ (fields_in case) (body_in case body.line)
-    (heading_again (fields_text case behind))
-    (fields_again (fields_in case) behind bounds.seed bounds.steps bounds.visits bounds.paths bounds.schedules)
-    body.gives refl bounds.product
-    ∙ ap Ok (case_made case body.line bounds.input)
+    let seeded : Case = with_field Seed case.seed no_case in
+    let stepping : Case = with_field Steps case.steps seeded in
+    let visiting : Case = with_field Visits case.visits stepping in
+    let listing : Case = with_field Paths case.paths visiting in
+    let whole : Case = with_field Schedules case.schedules listing in
+    let behind : List Line = body ++ End ∷ [] in
+    let four : List Line = Field Schedules case.schedules ∷ behind in
+    let three : List Line = Field Paths case.paths ∷ four in
+    let two : List Line = Field Visits case.visits ∷ three in (
+      progress (Some (keywords.Field Seed)) no_case,
+      stepped code start 1 Heading _ refl refl,
+      field_leads code Seed case.seed no_case 2 (Field Steps case.steps ∷ two) case (omega arith) (omega (arith, bounds.seed))
+          (field_leads code Steps case.steps seeded 3 two case bounds.steps.0 bounds.steps.1
+          (field_leads code Visits case.visits stepping 4 three case bounds.visits.0 bounds.visits.1
+          (field_leads code Paths case.paths visiting 5 four case (omega (arith, bounds.paths)) (omega (arith, bounds.paths))
+          (field_leads code Schedules case.schedules listing 6 behind case (omega (arith, bounds.schedules)) (omega (arith, bounds.schedules))
+          (body_leads code body keywords.Input whole case.watch 7 case (omega arith) spells.body_lines spells.in_order spells.sites_are
+          (λ i. record case { input = same_input case.input no_input bounds.input i; turns = spells.turns_are i; races = spells.races_are i })
+          bounds.room (omega arith) bounds.product))))),
+    )
+
+pub spelled : (code : Module) (text : List ℕ) (case : Case) (body : List Line) → Spells code text case body → case_of code text ≡ Ok case
+unfolding case_of
+spelled code text case body spells =
+    let lines : List Line = case_lines case body in
+    let again = lines_again code lines start 1 case (tt, (tt, (tt, (tt, (tt, (tt, body_forms body spells.body_lines))))))
+    (case_leads code text case body spells) in
+    ap (λ t. lines_from code start 1 (parts_of 10 t)) (spells.text_is ∙ sym (append-nil (lines_text (map line_text lines))))
+    ∙ ap (lines_from code start 1) (lines_parted (map line_text lines) [] again.1)
+    ∙ again.0

@@ -1,12 +1,8 @@
-pub mod Body
-pub mod Fault
-pub mod Field
-pub mod Input
+pub mod Error
+pub mod Keyword
+pub mod Laws
 pub mod Line
-pub mod Pair
+pub mod Progress
 pub mod Read
-pub mod Rows
-pub mod Run
-pub mod Spelling
 pub mod Watch
 pub mod Words

@@ -1,53 +1,33 @@
--- The words of a line of a case text: keywords and numbers.
-use Rattle.std.specs.Prelude.{ℕ, ◌+◌, ◌^◌, Bool, ◌==◌, ◌&&◌, not, nat_lt, List, [], ◌∷◌, length, take, drop, position, slice_index, min, Option, Some, None, if◌then◌else◌}
-use Rattle.std.specs.List.{list_all, slice_split}
-use Rattle.std.specs.Char.{is_ascii_digit}
-use Rattle.std.specs.Str.{bytes_eq}
-use Rattle.std.specs.Str.Parse.{digits_value}
+-- The words of a line of an input, and of a line of a watched site.
+use Rattle.std.specs.Prelude.{ℕ, ◌^◌, Bool, not, ◌&&◌, ◌||◌, ◌==◌, nat_lt, List, [], ◌∷◌, length, Option, None, if◌then◌else◌, option_map}
+use Rattle.std.specs.Char.{is_ascii_alphanumeric}
+use Rattle.std.specs.List.{list_all}
+use Rattle.case_text.specs.declared.words.InputWords.{InputWords}
+use Rattle.text_lines.specs.Number.{one_number}
 
--- what stands before a place and behind it, or the whole
-abbrev pub parted_at : List ℕ → Option ℕ → List ℕ × Option (List ℕ)
-parted_at text None = (text, None)
-parted_at text (Some place) = (take place text, Some (drop (place + 1) text))
+-- a function's name, and a number of an instruction in it
+pub record Watched : Type 0 where
+  pub name : List ℕ
+  pub inst : ℕ
 
--- what stands before the first such byte, and what follows it, where there is one
-abbrev pub parted : ℕ → List ℕ → List ℕ × Option (List ℕ)
-parted byte text = parted_at text (position (λ b. b == byte) text)
+abbrev pub watched : List ℕ → ℕ → Watched
+watched name inst = record { name = name; inst = inst }
 
--- the parts between such bytes, of which there is at least one
-abbrev pub parts_of : ℕ → List ℕ → List (List ℕ)
-parts_of byte text = slice_split (λ b. b == byte) text
+-- letters, digits, `$`, `.`, `_` and `-`
+abbrev pub is_name_byte : ℕ → Bool
+is_name_byte byte = is_ascii_alphanumeric byte || byte == 36 || byte == 46 || byte == 95 || byte == 45
 
--- the parts, where there are two
-abbrev pub two_of : List (List ℕ) → Option (List ℕ × List ℕ)
-two_of (first ∷ second ∷ []) = Some (first, second)
-two_of _ = None
+-- a name as it stands without quotes
+abbrev pub is_plain : List ℕ → Bool
+is_plain name = not (length name == 0) && list_all is_name_byte name
 
--- the parts, where there are three
-abbrev pub three_of : List (List ℕ) → Option (List ℕ × List ℕ × List ℕ)
-three_of (first ∷ second ∷ third ∷ []) = Some (first, second, third)
-three_of _ = None
+-- `FUNCTION INST`
+abbrev pub watch_words : List (List ℕ) → Option Watched
+watch_words [] = None
+watch_words (name ∷ words) = if is_plain name then option_map (watched name) (one_number words) else None
 
-abbrev pub operand_in : List ℕ → List ℕ × Option (List ℕ) → Option (List ℕ)
-operand_in keyword (word, None) = None
-operand_in keyword (word, Some operand) = if bytes_eq word keyword then Some operand else None
+abbrev pub is_width : ℕ → Bool
+is_width width = width == 8 || width == 16 || width == 32 || width == 64
 
--- what follows the keyword and a space
-abbrev pub operand_of : List ℕ → List ℕ → Option (List ℕ)
-operand_of keyword line = operand_in keyword (parted 32 line)
-
--- a zero in front of other digits
-abbrev pub has_leading_zero : List ℕ → Bool
-has_leading_zero word = nat_lt 1 (length word) && slice_index word 0 == 48
-
--- decimal digits without a leading zero
-abbrev pub is_numeral : List ℕ → Bool
-is_numeral word = not (length word == 0) && not (has_leading_zero word) && list_all is_ascii_digit word
-
--- one past the greatest number of 64 bits, which is above every bound
-abbrev pub cut : ℕ
-cut = 2 ^ 64
-
--- the number that a word spells, where it spells one; what is above `cut` is cut to it
-unfoldable pub number_of : List ℕ → Option ℕ
-number_of word = if is_numeral word then Some (min (digits_value 10 word) cut) else None
+abbrev pub is_input : InputWords → Bool
+is_input words = nat_lt words.slot (2 ^ 16) && is_width words.width && nat_lt words.value (2 ^ words.width)

@@ -1,13 +1,12 @@
 //! What is wrong with a case text, and in which line.
 
 ghost use Rattle.std.specs.Prelude.{◌≡◌};
-ghost use Rattle.case_text.specs.declared.error.CaseError.TheVariants.{NoMemory};
+ghost use Rattle.case_text.specs.Error.{name_of, place_of};
 
-use std::alloc::{AllocError, AllocFailed};
 use thiserror::Error;
 
-/// Why no case was read. Lines are numbered from 1.
-#[derive(Debug, Drop, PartialEq, Eq, Error)]
+/// Why a text is no case. Lines are numbered from 1.
+#[derive(Clone, Copy, Debug, PartialEq, Eq, Error)]
 pub enum CaseError {
     #[error("line {line} has no form that may stand there")]
     Syntax { line: u32 },
@@ -17,22 +16,29 @@ pub enum CaseError {
     Site { line: u32 },
     #[error("line {line} gives an input that the module does not read so")]
     Slot { line: u32 },
-    #[error("out of memory")]
-    NoMemory,
 }
 
-impl From<AllocError> for CaseError {
-    ghost from_gives = { λ _ error. error ≡ NoMemory };
-
-    fn from(_refused: AllocError) -> CaseError {
-        CaseError::NoMemory
+impl CaseError {
+    pub fn name(self) -> &'static str
+        ensures { result.now ≡ name_of self }
+    {
+        match self {
+            CaseError::Syntax { .. } => "Syntax",
+            CaseError::Range { .. } => "Range",
+            CaseError::Site { .. } => "Site",
+            CaseError::Slot { .. } => "Slot",
+        }
     }
-}
 
-impl<T: Drop> From<AllocFailed<T>> for CaseError {
-    ghost from_gives = { λ _ error. error ≡ NoMemory };
-
-    fn from(_refused: AllocFailed<T>) -> CaseError {
-        CaseError::NoMemory
+    /// The number of the line.
+    pub fn place(self) -> u32
+        ensures { result ≡ place_of self }
+    {
+        match self {
+            CaseError::Syntax { line }
+            | CaseError::Range { line }
+            | CaseError::Site { line }
+            | CaseError::Slot { line } => line,
+        }
     }
 }

@@ -1,28 +1,23 @@
 //! The text of a case: what is asked of a module.
 //!
 //! - `error`: what is wrong with a text, and in which line
-//! - `part`: texts parted at line feeds, spaces and stars
-//! - `number`: the numbers of a line
-//! - `field`: the lines of one number each, which come first
-//! - `input`, `watch`, `run`, `pair`: the lines behind those, by their keywords
-//! - `rows`: lines of one keyword behind one another
-//! - `body`: these lines in their order, up to `end`
+//! - `keyword`: the words that lines begin with, in the order of the lines
+//! - `line`: a line by its shape alone
+//! - `words`: the words of a line of an input, and of a line of a watched site
+//! - `watch`: the loads and stores that lines of watched sites name
+//! - `progress`: what was read so far, and each kind of line that is taken in
 //! - `read`: the call that reads a whole text
-//! - `laws`: that an accepted text is the lines of its case
+//! - `laws`: that an accepted text is the lines of its case, and that a refused line is never accepted
 #![tactic(auto)]
 
-mod body;
 mod error;
-mod field;
-mod input;
+mod keyword;
 pub mod laws;
-mod number;
-mod pair;
-mod part;
+mod line;
+mod progress;
 mod read;
-mod rows;
-mod run;
 mod watch;
+mod words;
 
 pub use error::CaseError;
 pub use read::read_case;

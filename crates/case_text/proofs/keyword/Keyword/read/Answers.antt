@@ -1,0 +1,13 @@
+use Rattle.std.proofs.Common.{rules, ◌∙◌, ap, sym, tests}
+use Rattle.std.specs.Str.{bytes_eq}
+use Rattle.std.specs.Option.{option_copied}
+use Rattle.std.proofs.lemmas.Iterator.{YieldsList-from_slice}
+use Rattle.std.proofs.lemmas.Iterator.Search.{find_from_yields_List}
+use Rattle.case_text.specs.Keyword.{keywords, text_of}
+use Rattle.case_text.proofs.keyword.Keyword.read.Goals as goal
+
+pub returns : goal.returns
+returns c =
+    let found = find_from_yields_List (λ keyword. bytes_eq (text_of keyword) c.args.word.now) _ _ c.find.result c.find.ensures.ran
+    (YieldsList-from_slice keywords (cc)) (λ x b q k. search (rules, tests)) in
+    c.copied.ensures ∙ found
