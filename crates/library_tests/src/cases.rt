@@ -2,6 +2,7 @@
 
 use case_text::{CaseError, read_case};
 use ir_types::{Block, Function, Inst, Kind, List, Module, Operand, Site, Width};
+use rc_base::Failure;
 use std::alloc::{AllocError, Global};
 use std::test::Fail;
 
@@ -121,6 +122,8 @@ fn a_jump_is_not_watched(rt: HostRuntime) -> Result<(), Fail> {
     let code = module(alloc)?;
     let text = format!(in alloc; "{HEAD}watch a 1\nend\n")?;
     let found = read_case(alloc, text.as_bytes(), &code).err();
-    assert_eq!(rt; found, Some(CaseError::Site { line: 7 }));
+    let refused = CaseError::Site { line: 7 };
+    assert_eq!(rt; found, Some(Failure::Refused(refused)));
+    assert_eq!(rt; (refused.name(), refused.place()), ("Site", 7));
     Ok(())
 }
