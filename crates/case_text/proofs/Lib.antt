@@ -2,7 +2,5 @@ pub mod Accepted
 pub mod Made
 pub mod Refused
 pub mod Shapes
-pub mod Sites
 pub mod Spelled
 pub mod Steps
-pub mod Taken

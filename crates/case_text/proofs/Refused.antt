@@ -21,85 +21,72 @@ use Rattle.text_lines.proofs.FirstPart.{HasFirst, parts_have_first}
 use Rattle.text_lines.proofs.Joined.{lines_parted}
 use Rattle.ir_types.specs.declared.instruction.Site.{Site}
 
--- an error is at this line
-AtLine : {A : Type 0} → ℕ → Result A CaseError → Type 0
-AtLine number (Ok x) = Unit {0}
-AtLine number (Err error) = place_of error ≡ number
+-- an error is not before this line
+NotBefore : {A : Type 0} → ℕ → Result A CaseError → Type 0
+NotBefore number (Ok x) = Unit {0}
+NotBefore number (Err error) = number ≤ place_of error
 
-at_guard : {A : Type 0} (b : Bool) (number : ℕ) (one other : Result A CaseError) → AtLine number one → AtLine number other →
-    AtLine number (cond b one other)
+at_guard : {A : Type 0} (b : Bool) (number : ℕ) (one other : Result A CaseError) → NotBefore number one → NotBefore number other →
+    NotBefore number (cond b one other)
 at_guard true number one other here there = here
 at_guard false number one other here there = there
 
-at_error : {A : Type 0} (number : ℕ) (error : CaseError) (o : Option A) → place_of error ≡ number → AtLine number (or_error error o)
-unfolding AtLine
+at_error : {A : Type 0} (number : ℕ) (error : CaseError) (o : Option A) → number ≤ place_of error → NotBefore number (or_error error o)
+unfolding NotBefore
 at_error number error None is = is
 at_error number error (Some x) is = tt
 
-at_bind : {A B : Type 0} (number : ℕ) (r : Result A CaseError) (f : A → Result B CaseError) → AtLine number r →
-    ((x : A) → AtLine number (f x)) → AtLine number (r >>= f)
-unfolding AtLine
+at_bind : {A B : Type 0} (number : ℕ) (r : Result A CaseError) (f : A → Result B CaseError) → NotBefore number r →
+    ((x : A) → NotBefore number (f x)) → NotBefore number (r >>= f)
+unfolding NotBefore
 at_bind number (Ok x) f here rest = rest x
 at_bind number (Err error) f here rest = here
 
-watch_at : (code : Module) (number : ℕ) (words : Watched) (sites : List Site) → AtLine number (with_watch code number words sites)
-unfolding AtLine with_watch
+watch_at : (code : Module) (number : ℕ) (words : Watched) (sites : List Site) → NotBefore number (with_watch code number words sites)
+unfolding NotBefore with_watch
 watch_at code number words sites =
     at_guard (is_watch sites words) number _ (Err (errors.Range number))
     (at_bind number (or_error (errors.Site number) (site_of code words)) (with_site number sites)
-    (at_error number (errors.Site number) (site_of code words) refl)
-    (λ site. at_guard _ number (Err (errors.Site number)) (Ok (sites ++ site ∷ [])) refl tt)) refl
+    (at_error number (errors.Site number) (site_of code words) (omega arith))
+    (λ site. at_guard _ number (Err (errors.Site number)) (Ok (sites ++ site ∷ [])) (omega arith) tt)) (omega arith)
 
-line_at : (code : Module) (number : ℕ) (case : Case) (line : Line) → AtLine number (with_line code number case line)
-unfolding AtLine
+line_at : (code : Module) (number : ℕ) (case : Case) (line : Line) → NotBefore number (with_line code number case line)
+unfolding NotBefore
 line_at code number case Heading = tt
-line_at code number case (Field field value) = at_guard (is_within field value) number _ (Err (errors.Range number)) tt refl
-line_at code number case (Input words) = at_guard (is_input words) number (Err (errors.Slot number)) (Err (errors.Range number)) refl refl
-line_at code number case (Watch words) = at_bind number (with_watch code number words case.watch) _ (watch_at code number words case.watch) (λ _. tt)
+line_at code number case (Field field value) = at_guard (is_within field value) number _ (Err (errors.Range number)) tt (omega arith)
+line_at code number case (Input words) =
+    at_guard (is_input words) number (Err (errors.Slot number)) (Err (errors.Range number)) (omega arith) (omega arith)
+line_at code number case (Watch words) =
+    at_bind number (with_watch code number words case.watch) _ (watch_at code number words case.watch) (λ _. tt)
 line_at code number case (Turns runs) =
     at_bind number (or_error (errors.Range number) (with_runs runs case.turns)) _
-    (at_error number (errors.Range number) (with_runs runs case.turns) refl) (λ _. tt)
+    (at_error number (errors.Range number) (with_runs runs case.turns) (omega arith)) (λ _. tt)
 line_at code number case (Race first second) =
     at_bind number (with_race number first second case.races) _
-    (at_guard (is_race case.races first second) number _ (Err (errors.Range number)) tt refl) (λ _. tt)
+    (at_guard (is_race case.races first second) number _ (Err (errors.Range number)) tt (omega arith)) (λ _. tt)
 line_at code number case End =
-    at_guard (ltb (2 ^ 24) (case.visits * case.steps)) number (Err (errors.Range number)) (Ok (progress None case)) refl tt
+    at_guard (ltb (2 ^ 24) (case.visits * case.steps)) number (Err (errors.Range number)) (Ok (progress None case)) (omega arith) tt
 
-taken_at : (code : Module) (here : Progress) (number : ℕ) (text : List ℕ) → AtLine number (taken code here number text)
-unfolding AtLine taken step
+taken_at : (code : Module) (here : Progress) (number : ℕ) (text : List ℕ) → NotBefore number (taken code here number text)
+unfolding NotBefore taken step
 taken_at code here number text =
     at_bind number (or_error (errors.Syntax number) (line_of text)) (step code here number)
-    (at_error number (errors.Syntax number) (line_of text) refl)
-    (λ line. at_guard (may_stand here.next (keyword_in line)) number _ (Err (errors.Syntax number)) (line_at code number here.case line) refl)
-
--- an error is not before this line
-NotBefore : ℕ → Result Case CaseError → Type 0
-NotBefore number (Ok case) = Unit {0}
-NotBefore number (Err error) = number ≤ place_of error
+    (at_error number (errors.Syntax number) (line_of text) (omega arith))
+    (λ line. at_guard (may_stand here.next (keyword_in line)) number _ (Err (errors.Syntax number)) (line_at code number here.case line) (omega arith))
 
 earlier : (number : ℕ) (r : Result Case CaseError) → NotBefore (number + 1) r → NotBefore number r
 unfolding NotBefore
 earlier number (Ok case) later = tt
 earlier number (Err error) later = omega arith
 
-not_before : (number : ℕ) (r : Result Progress CaseError) (f : Progress → Result Case CaseError) → AtLine number r →
-    ((after : Progress) → NotBefore (number + 1) (f after)) → NotBefore number (r >>= f)
-unfolding AtLine NotBefore
-not_before number (Ok after) f here rest = earlier number (f after) (rest after)
-not_before number (Err error) f here rest = omega (arith, here)
-
-ended_at : (ended : Bool) (number : ℕ) (case : Case) → NotBefore number (cond ended (Ok case) (Err (errors.Syntax number)))
-unfolding NotBefore
-ended_at true number case = tt
-ended_at false number case = omega arith
-
-lines_not_before : (code : Module) (parts : List (List ℕ)) (here : Progress) (number : ℕ) → NotBefore number (lines_from code here number parts)
+lines_at : (code : Module) (parts : List (List ℕ)) (here : Progress) (number : ℕ) → NotBefore number (lines_from code here number parts)
 unfolding lines_from NotBefore
-lines_not_before code [] here number = omega arith
-lines_not_before code (last ∷ []) here number = ended_at (is_ended here last) number here.case
-lines_not_before code (line ∷ next ∷ more) here number =
-    not_before number (taken code here number line) _ (taken_at code here number line)
-    (λ after. lines_not_before code (next ∷ more) after (number + 1))
+lines_at code [] here number = omega arith
+lines_at code (last ∷ []) here number =
+    at_guard (is_ended here last) number (Ok here.case) (Err (errors.Syntax number)) tt (omega arith)
+lines_at code (line ∷ next ∷ more) here number =
+    at_bind number (taken code here number line) _ (taken_at code here number line)
+    (λ after. earlier number _ (lines_at code (next ∷ more) after (number + 1)))
 
 pub lines_cons : (code : Module) (here : Progress) (number : ℕ) (line : List ℕ) (rest : List (List ℕ)) → HasFirst rest →
     lines_from code here number (line ∷ rest) ≡ ((taken code here number line) >>= (λ after. lines_from code after (number + 1) rest))
@@ -123,7 +110,7 @@ refused_from : (code : Module) (lines parts others : List (List ℕ)) (here : Pr
     place_of error < number + length lines → lines_from code here number (lines ++ parts) ≡ Err error →
     lines_from code here number (lines ++ others) ≡ Err error
 refused_from code [] parts others here number error has other_has place is =
-    absurd (omega (arith, before number _ error (lines_not_before code parts here number) is))
+    absurd (omega (arith, before number _ error (lines_at code parts here number) is))
 refused_from code (line ∷ lines) parts others here number error has other_has place is =
     lines_cons code here number line (lines ++ others) (first_behind lines others other_has)
     ∙ same_error (taken code here number line) (λ after. lines_from code after (number + 1) (lines ++ parts))

@@ -1,8 +1,8 @@
 -- A text has the shape of a line where it is the line's own spelling, and nowhere else.
-use Rattle.std.proofs.Common.{◌≡◌, ℕ, ◌<◌, Bool, true, false, cond, eqb, eqb-true, List, [], ◌∷◌, ◌++◌, length, map, Option, Some, None, refl, ap, ◌∙◌, sym, subst, arith}
+use Rattle.std.proofs.Common.{◌≡◌, ℕ, ◌<◌, Bool, true, false, cond, eqb, eqb-true, List, [], ◌∷◌, Some, None, refl, ap, ◌∙◌, sym, subst, arith, slice_get}
 use Rattle.std.specs.Prelude.{codes, decimal, option_and_then, option_map}
 use Rattle.std.specs.Char.{is_ascii_digit}
-use Rattle.std.specs.List.{AllByRecursion, find, join_with_byte, list_all}
+use Rattle.std.specs.List.{AllByRecursion, find, list_all}
 use Rattle.std.specs.Str.{bytes_eq}
 use Rattle.std.proofs.lemmas.Bool.{and_parts}
 use Rattle.std.proofs.lemmas.Fmt.{decimal_digit}
@@ -13,7 +13,7 @@ use Rattle.case_text.specs.declared.keyword.Keyword.{Keyword}
 use Rattle.case_text.specs.declared.keyword.Keyword.TheVariants as keywords
 use Rattle.case_text.specs.declared.line.Line.{Line}
 use Rattle.case_text.specs.declared.line.Line.TheVariants.{Heading, Field, Input, Watch, Turns, Race, End}
-use Rattle.case_text.specs.Keyword.{keyword_of, keywords as every_keyword, text_of}
+use Rattle.case_text.specs.Keyword.{keyword_of, keywords as every_keyword, rank_of, text_of}
 use Rattle.case_text.specs.Line.{AreUncut, IsForm, heading_with, input_line, keyword_in, line_of, line_of_words, line_text, line_with, operands_of, race_line, turns_line}
 use Rattle.case_text.specs.Words.{Watched, is_name_byte, is_plain, watch_words, watched}
 use Rattle.text_lines.specs.Number.{cut, one_number, three_numbers, two_numbers}
@@ -114,31 +114,21 @@ line_read text line small is =
 abbrev Parts : ℕ → Type 0
 Parts byte = (is_name_byte byte ≡ false) × (is_ascii_digit byte ≡ false) × (eqb 42 byte ≡ false)
 
-keyword_bytes : (keyword : Keyword) → list_all is_name_byte (text_of keyword) ≡ true
-keyword_bytes keywords.Heading = refl
-keyword_bytes (keywords.Field Seed) = refl
-keyword_bytes (keywords.Field Steps) = refl
-keyword_bytes (keywords.Field Visits) = refl
-keyword_bytes (keywords.Field Paths) = refl
-keyword_bytes (keywords.Field Schedules) = refl
-keyword_bytes keywords.Input = refl
-keyword_bytes keywords.Watch = refl
-keyword_bytes keywords.Turn = refl
-keyword_bytes keywords.Race = refl
-keyword_bytes keywords.End = refl
-
-keyword_again : (keyword : Keyword) → keyword_of (text_of keyword) ≡ Some keyword
-keyword_again keywords.Heading = refl
-keyword_again (keywords.Field Seed) = refl
-keyword_again (keywords.Field Steps) = refl
-keyword_again (keywords.Field Visits) = refl
-keyword_again (keywords.Field Paths) = refl
-keyword_again (keywords.Field Schedules) = refl
-keyword_again keywords.Input = refl
-keyword_again keywords.Watch = refl
-keyword_again keywords.Turn = refl
-keyword_again keywords.Race = refl
-keyword_again keywords.End = refl
+-- a keyword is found by its text, which has bytes of names alone, and by its rank
+pub known : (keyword : Keyword) →
+    (keyword_of (text_of keyword) ≡ Some keyword) × (list_all is_name_byte (text_of keyword) ≡ true)
+    × (slice_get every_keyword (rank_of keyword) ≡ Some keyword)
+known keywords.Heading = (refl, refl, refl)
+known (keywords.Field Seed) = (refl, refl, refl)
+known (keywords.Field Steps) = (refl, refl, refl)
+known (keywords.Field Visits) = (refl, refl, refl)
+known (keywords.Field Paths) = (refl, refl, refl)
+known (keywords.Field Schedules) = (refl, refl, refl)
+known keywords.Input = (refl, refl, refl)
+known keywords.Watch = (refl, refl, refl)
+known keywords.Turn = (refl, refl, refl)
+known keywords.Race = (refl, refl, refl)
+known keywords.End = (refl, refl, refl)
 
 operands_lack : (byte : ℕ) → Parts byte → (line : Line) → AreUncut line → IsForm line → AllByRecursion (Lacks byte) (operands_of line)
 operands_lack byte parts Heading small form = (passing_lack is_ascii_digit byte (codes "1") parts.1 refl, tt)
@@ -157,7 +147,7 @@ operands_lack byte parts End small form = tt
 words_lack : (byte : ℕ) → Parts byte → (line : Line) → AreUncut line → IsForm line →
     AllByRecursion (Lacks byte) (text_of (keyword_in line) ∷ operands_of line)
 words_lack byte parts line small form =
-    (passing_lack is_name_byte byte (text_of (keyword_in line)) parts.0 (keyword_bytes (keyword_in line)), operands_lack byte parts line small form)
+    (passing_lack is_name_byte byte (text_of (keyword_in line)) parts.0 (known (keyword_in line)).1, operands_lack byte parts line small form)
 
 operands_again : (line : Line) → AreUncut line → IsForm line → line_with (keyword_in line) (operands_of line) ≡ Some line
 operands_again Heading small form =
@@ -177,7 +167,7 @@ unfolding line_of
 line_again line small form =
     let lack = words_lack 32 (refl, refl, refl) line small form in
     ap line_of_words (parts_joined 32 (text_of (keyword_in line)) (operands_of line) lack.0 lack.1)
-    ∙ ap (option_and_then (λ keyword. line_with keyword (operands_of line))) (keyword_again (keyword_in line))
+    ∙ ap (option_and_then (λ keyword. line_with keyword (operands_of line))) (known (keyword_in line)).0
     ∙ operands_again line small form
 
 pub line_lacks_feed : (line : Line) → AreUncut line → IsForm line → Lacks 10 (line_text line)

@@ -1,30 +1,76 @@
 -- A text that is the lines of a case is accepted as that case.
-use Rattle.std.proofs.Common.{◌≡◌, ℕ, ◌+◌, ◌*◌, ◌^◌, ◌<◌, ◌≤◌, le-leb, le-ltb, lt-ltb, List, [], ◌∷◌, ◌++◌, length, map, Option, Some, None, Ok, refl, ap, ◌∙◌, sym, subst, arith, append_assoc, append-nil, length-append}
-use Rattle.std.specs.List.{AllByRecursion, IsDistinct, flat_map}
+use Rattle.std.proofs.Common.{◌≡◌, ℕ, ◌+◌, ◌*◌, ◌^◌, ◌<◌, ◌≤◌, true, false, ◌||◌, ◌&&◌, eqb, leb, eq-eqb, le-leb, le-ltb, lt-ltb, List, [], ◌∷◌, ◌++◌, length, map, Some, None, Ok, refl, ap, ◌∙◌, sym, subst, arith, tests, append_assoc, append-nil, length-append}
+use Rattle.std.specs.List.{AllByRecursion, IsDistinct, flat_map, list_any}
+use Rattle.std.proofs.lemmas.Map.Keys.{IsDistinct-head, IsDistinct-tail}
 use Rattle.ir_types.specs.declared.instruction.Site.{Site}
 use Rattle.ir_types.specs.declared.«module».Module.{Module}
-use Rattle.machine_model.specs.Access.{is_site as sites_equal}
+use Rattle.machine_model.specs.Access.{is_site}
 use Rattle.machine_model.specs.declared.case.Case.{Case}
+use Rattle.rc_base.specs.Failures.{◌>>=◌}
 use Rattle.case_text.specs.declared.keyword.Field.{Field as OneNumber}
 use Rattle.case_text.specs.declared.keyword.Field.TheVariants.{Seed, Steps, Visits, Paths, Schedules}
 use Rattle.case_text.specs.declared.keyword.Keyword.{Keyword}
 use Rattle.case_text.specs.declared.keyword.Keyword.TheVariants as keywords
 use Rattle.case_text.specs.declared.line.Line.{Line}
-use Rattle.case_text.specs.declared.line.Line.TheVariants.{Heading, Field, Input, Watch, Turns, Race, End}
-use Rattle.case_text.specs.Keyword.{after_field, least_of, most_of, rank_of}
+use Rattle.case_text.specs.declared.line.Line.TheVariants.{Heading, Field, Watch, Turns, Race, End}
+use Rattle.case_text.specs.declared.progress.Progress.{Progress}
+use Rattle.case_text.specs.Keyword.{after_field, least_of, may_stand, most_of, rank_of}
 use Rattle.case_text.specs.Laws.{AreInOrder, HasRoom, IsBodyLine, Spells, case_lines, races_in, turns_in, watched_in}
 use Rattle.case_text.specs.Line.{IsForm, keyword_in, line_text}
-use Rattle.case_text.specs.Progress.{no_case, no_input, progress, start, step, with_field, with_line}
+use Rattle.case_text.specs.Progress.{no_case, no_input, progress, start, step, taken, with_field, with_line}
 use Rattle.case_text.specs.Read.{case_of, lines_from}
 use Rattle.case_text.specs.Watch.{site_of}
-use Rattle.text_lines.specs.Part.{lines_text, parts_of}
+use Rattle.text_lines.specs.Part.{Lacks, lines_text, parts_of}
 use Rattle.text_lines.specs.RunWord.{run_turns}
 use Rattle.text_lines.proofs.Joined.{lines_parted}
-use Rattle.case_text.proofs.Accepted.{grown, grown_none}
+use Rattle.case_text.proofs.Accepted.{LeadTo, grown_none, uncut}
 use Rattle.case_text.proofs.Made.{same_input}
-use Rattle.case_text.proofs.Sites.{apart_before}
-use Rattle.case_text.proofs.Steps.{runs_again, site_again}
-use Rattle.case_text.proofs.Taken.{LeadTo, lines_again, stands_again, stands_same, stepped}
+use Rattle.case_text.proofs.Refused.{first_behind, lines_cons}
+use Rattle.case_text.proofs.Shapes.{line_again, line_lacks_feed}
+use Rattle.case_text.proofs.Steps.{equal_sites, grown, runs_again, site_again}
+
+stepped : (code : Module) (here : Progress) (number : ℕ) (line : Line) (after : Progress) → may_stand here.next (keyword_in line) ≡ true →
+    with_line code number here.case line ≡ Ok after → step code here number line ≡ Ok after
+unfolding step
+stepped code here number line after stands is = rw stands is
+
+taken_again : (code : Module) (here : Progress) (number : ℕ) (line : Line) (after : Progress) → IsForm line → step code here number line ≡ Ok after →
+    taken code here number (line_text line) ≡ Ok after
+unfolding taken
+taken_again code here number line after form is = rw (line_again line (uncut code here number line after is) form) is
+
+lines_again : (code : Module) (lines : List Line) (here : Progress) (number : ℕ) (case : Case) → AllByRecursion IsForm lines →
+    LeadTo code here number lines case →
+    (lines_from code here number (map line_text lines ++ [] ∷ []) ≡ Ok case) × AllByRecursion (Lacks 10) (map line_text lines)
+unfolding lines_from
+lines_again code [] here number case forms lead = (rw lead.0 (ap Ok lead.1), tt)
+lines_again code (line ∷ lines) here number case forms (after, is, lead) =
+    let others = lines_again code lines after (number + 1) case forms.1 lead in (
+      lines_cons code here number (line_text line) (map line_text lines ++ [] ∷ []) (first_behind (map line_text lines) ([] ∷ []) ([], [], refl))
+          ∙ ap (λ r. r >>= (λ after. lines_from code after (number + 1) (map line_text lines ++ [] ∷ [])))
+          (taken_again code here number line after forms.0 is)
+          ∙ others.0,
+      (line_lacks_feed line (uncut code here number line after is) forms.0, others.1),
+    )
+
+stands_again : (first other : ℕ) → 6 ≤ first → first ≤ other → (eqb first other || leb 6 first && leb first other) ≡ true
+stands_again first other low high = grind (arith, tests)
+
+stands_same : (first : ℕ) → (eqb first first || leb 6 first && leb first first) ≡ true
+stands_same first = rw (eq-eqb first first refl) refl
+
+each_at : (sites others : List Site) (site first : Site) → AllByRecursion (λ other. is_site first other ≡ false) (sites ++ site ∷ others) →
+    is_site first site ≡ false
+each_at [] others site first each = each.0
+each_at (next ∷ sites) others site first each = each_at sites others site first each.1
+
+-- no site is among those before it
+apart_before : (sites others : List Site) (site : Site) → IsDistinct is_site (sites ++ site ∷ others) → list_any (is_site site) sites ≡ false
+apart_before [] others site distinct = refl
+apart_before (first ∷ sites) others site distinct =
+    let here : is_site site first ≡ false =
+    equal_sites.symm site first ∙ each_at sites others site first (IsDistinct-head is_site first (sites ++ site ∷ others) distinct) in
+    rw (here, apart_before sites others site (IsDistinct-tail is_site first (sites ++ site ∷ others) distinct)) refl
 
 -- lines between the head and the end, and the end, lead to the case that they make
 body_leads : (code : Module) (body : List Line) (first : Keyword) (case : Case) (sites : List Site) (number : ℕ) (whole : Case) →
@@ -42,14 +88,15 @@ body_leads code [] first case (site ∷ sites) number whole low each order are i
 body_leads code (Watch words ∷ body) first case [] number whole low each order are is room high product = cc
 body_leads code (Watch words ∷ body) first case (site ∷ sites) number whole low each order are is room high product =
     let more : List Site = case.watch ++ site ∷ [] in
+    let low_inst : words.inst < 2 ^ 32 = each.0 in
     let found : site_of code words ≡ Some site = cc in
     let others : map Some sites ≡ map (site_of code) (flat_map watched_in body) = cc in
     let few : length case.watch < 256 = omega (arith, room.watch, ap (λ (c : Case). length c.watch) is, length-append case.watch (site ∷ sites)) in
-    let apart = apart_before case.watch sites site (subst (λ (c : Case). IsDistinct sites_equal c.watch) is room.distinct) in
+    let apart = apart_before case.watch sites site (subst (λ (c : Case). IsDistinct is_site c.watch) is room.distinct) in
     let after = progress (Some keywords.Watch) (record case { watch = more }) in (
       after,
       stepped code (progress (Some first) case) number (Watch words) after (stands_again (rank_of first) 7 low order.0)
-          (rw (site_again code number words case.watch site each.0.1 few found apart) refl),
+          (rw (site_again code number words case.watch site low_inst few found apart) refl),
       body_leads code body keywords.Watch (record case { watch = more }) sites (number + 1) whole (omega arith) each.1 order.1 others
           (is ∙ (λ i. record case {
             watch = sym (append_assoc case.watch (site ∷ []) sites) i;
@@ -64,7 +111,7 @@ body_leads code (Turns runs ∷ body) first case sites number whole low each ord
     let after = progress (Some keywords.Turn) (record case { turns = case.turns ++ added }) in (
       after,
       stepped code (progress (Some first) case) number (Turns runs) after (stands_again (rank_of first) 8 low order.0)
-          (rw (runs_again runs case.turns each.0.1 few) refl),
+          (rw (runs_again runs case.turns each.0 few) refl),
       body_leads code body keywords.Turn (record case { turns = case.turns ++ added }) sites (number + 1) whole (omega arith) each.1 order.1 are
           (is ∙ (λ i. record case {
             watch = case.watch ++ sites;
@@ -88,20 +135,11 @@ body_leads code (Race a b ∷ body) first case sites number whole low each order
             races = sym (append_assoc case.races ((a, b) ∷ []) (flat_map races_in body)) i;
           })) room (omega arith) product,
     )
-body_leads code (Heading ∷ body) first case sites number whole low each order are is room high product = absurd each.0
-body_leads code (Field field value ∷ body) first case sites number whole low each order are is room high product = absurd each.0
-body_leads code (Input words ∷ body) first case sites number whole low each order are is room high product = absurd each.0
-body_leads code (End ∷ body) first case sites number whole low each order are is room high product = absurd each.0
+body_leads code (_ ∷ body) first case sites number whole low each order are is room high product = absurd each.0
 
-body_forms : (body : List Line) → AllByRecursion IsBodyLine body → AllByRecursion IsForm (body ++ End ∷ [])
-body_forms [] each = (tt, tt)
-body_forms (Watch words ∷ body) each = (each.0.0, body_forms body each.1)
-body_forms (Turns runs ∷ body) each = (each.0.0, body_forms body each.1)
-body_forms (Race a b ∷ body) each = (tt, body_forms body each.1)
-body_forms (Heading ∷ body) each = absurd each.0
-body_forms (Field field value ∷ body) each = absurd each.0
-body_forms (Input words ∷ body) each = absurd each.0
-body_forms (End ∷ body) each = absurd each.0
+end_form : (body : List Line) → AllByRecursion IsForm body → AllByRecursion IsForm (body ++ End ∷ [])
+end_form [] forms = (tt, tt)
+end_form (line ∷ body) forms = (forms.0, end_form body forms.1)
 
 field_leads : (code : Module) (field : OneNumber) (value : ℕ) (case : Case) (number : ℕ) (rest : List Line) (whole : Case) →
     least_of field ≤ value → value ≤ most_of field →
@@ -143,7 +181,7 @@ pub spelled : (code : Module) (text : List ℕ) (case : Case) (body : List Line)
 unfolding case_of
 spelled code text case body spells =
     let lines : List Line = case_lines case body in
-    let again = lines_again code lines start 1 case (tt, (tt, (tt, (tt, (tt, (tt, body_forms body spells.body_lines))))))
+    let again = lines_again code lines start 1 case (tt, (tt, (tt, (tt, (tt, (tt, end_form body spells.forms))))))
     (case_leads code text case body spells) in
     ap (λ t. lines_from code start 1 (parts_of 10 t)) (spells.text_is ∙ sym (append-nil (lines_text (map line_text lines))))
     ∙ ap (lines_from code start 1) (lines_parted (map line_text lines) [] again.1)

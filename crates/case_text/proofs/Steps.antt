@@ -1,9 +1,10 @@
 -- What a line that is taken in tells of itself and of the case, and that such a line is taken in.
-use Rattle.std.proofs.Common.{◌≡◌, ℕ, ◌+◌, ◌*◌, ◌^◌, ◌<◌, ◌≤◌, Bool, true, false, cond, leb-true, ltb, ltb-true, ltb-false, le-leb, lt-ltb, le-ltb, eqb, eq-eqb, List, [], ◌∷◌, ◌++◌, length, Option, Some, None, Result, Ok, Err, refl, ap, ◌∙◌, sym, subst, arith, tests, append_assoc, append-nil, length-append}
-use Rattle.std.specs.Prelude.{option_map, replicate}
+use Rattle.std.proofs.Common.{◌≡◌, ℕ, ◌+◌, ◌*◌, ◌^◌, ◌<◌, ◌≤◌, Bool, true, false, cond, leb-true, ltb, ltb-true, ltb-false, le-leb, lt-ltb, List, [], ◌∷◌, ◌++◌, length, map, Option, Some, None, Result, Ok, Err, refl, ap, ◌∙◌, sym, arith, tests, append_assoc, append-nil, length-append}
+use Rattle.std.specs.Cmp.{IsEquivalence}
 use Rattle.std.specs.List.{AllByRecursion, flat_map, list_any}
 use Rattle.std.proofs.lemmas.Bool.{and_parts}
 use Rattle.std.proofs.lemmas.List.{length-replicate}
+use Rattle.std.proofs.lemmas.Map.Keys.{IsDistinct-push}
 use Rattle.ir_types.specs.declared.instruction.Site.{Site}
 use Rattle.ir_types.specs.declared.«module».Module.{Module}
 use Rattle.machine_model.specs.Access.{is_site}
@@ -13,15 +14,14 @@ use Rattle.case_text.specs.declared.error.CaseError.{CaseError}
 use Rattle.case_text.specs.declared.error.CaseError.TheVariants as errors
 use Rattle.case_text.specs.declared.keyword.Field.{Field as OneNumber}
 use Rattle.case_text.specs.declared.keyword.Field.TheVariants.{Seed, Steps, Visits, Paths, Schedules}
-use Rattle.case_text.specs.declared.keyword.Keyword.{Keyword}
 use Rattle.case_text.specs.declared.keyword.Keyword.TheVariants as keywords
 use Rattle.case_text.specs.declared.line.Line.{Line}
 use Rattle.case_text.specs.declared.line.Line.TheVariants.{Heading, Field, Input, Watch, Turns, Race, End}
 use Rattle.case_text.specs.declared.progress.Progress.{Progress}
-use Rattle.case_text.specs.Keyword.{after_field, least_of, may_stand, most_of}
-use Rattle.case_text.specs.Laws.{IsRun}
+use Rattle.case_text.specs.Keyword.{after_field, least_of, most_of, rank_of}
+use Rattle.case_text.specs.Laws.{HasRoom, IsBodyLine, IsRun, races_in, turns_in, watched_in}
 use Rattle.case_text.specs.Line.{AreUncut, keyword_in}
-use Rattle.case_text.specs.Progress.{is_in_range, is_race, is_within, progress, step, with_field, with_line, with_race, with_runs}
+use Rattle.case_text.specs.Progress.{is_in_range, is_race, is_within, progress, with_field, with_line, with_race, with_runs}
 use Rattle.case_text.specs.Watch.{is_watch, site_of, with_site, with_watch}
 use Rattle.case_text.specs.Words.{Watched, is_input}
 use Rattle.text_lines.specs.Number.{cut}
@@ -101,6 +101,13 @@ runs_again (run ∷ runs) turns each few =
     omega (arith, few, length-append turns (run_turns run ++ flat_map run_turns runs), length-append (run_turns run) (flat_map run_turns runs), length-replicate (count_of run.times) run.thread) in
     rw (lt-ltb _ _ low, le-leb _ _ some, le-leb _ _ room) (runs_again runs (turns ++ run_turns run) each.1 (rw joins few) ∙ ap Some joins)
 
+pub equal_sites : IsEquivalence is_site
+equal_sites = record {
+  refl = λ x. grind (arith, tests);
+  symm = λ x y. grind (arith, tests);
+  congr = λ x y z same. grind (arith, tests);
+}
+
 -- the site of a line
 pub record AddsSite (code : Module) (sites : List Site) (words : Watched) (more : List Site) : Type 0 where
   pub inst : words.inst < 2 ^ 32
@@ -138,12 +145,26 @@ pub site_again : (code : Module) (number : ℕ) (words : Watched) (sites : List 
 unfolding with_watch
 site_again code number words sites site low room is_found apart = rw (lt-ltb _ _ low, lt-ltb _ _ room, is_found, apart) refl
 
-below_cut : (field : OneNumber) (value : ℕ) → value ≤ most_of field → value < cut
-below_cut Seed value high = omega arith
-below_cut Steps value high = omega arith
-below_cut Visits value high = omega arith
-below_cut Paths value high = omega arith
-below_cut Schedules value high = omega arith
+pub field_bounds : (field : OneNumber) → (most_of field < cut) × (rank_of (keywords.Field field) < 6)
+field_bounds Seed = (omega arith, omega arith)
+field_bounds Steps = (omega arith, omega arith)
+field_bounds Visits = (omega arith, omega arith)
+field_bounds Paths = (omega arith, omega arith)
+field_bounds Schedules = (omega arith, omega arith)
+
+-- the case with more in each list
+abbrev pub grown : Case → List Site → List ℕ → List (ℕ × ℕ) → Case
+grown case sites turns races =
+    record case { watch = case.watch ++ sites; turns = case.turns ++ turns; races = case.races ++ races }
+
+-- what a line between the head and the end makes of the case
+pub record AddsLine (code : Module) (case : Case) (line : Line) (after : Progress) : Type 0 where
+  pub is_line : IsBodyLine line
+  pub uncut : AreUncut line
+  pub sites : List Site
+  pub sites_are : map Some sites ≡ map (site_of code) (watched_in line)
+  pub after_is : after ≡ progress (Some (keyword_in line)) (grown case sites (turns_in line) (races_in line))
+  pub room : HasRoom case → HasRoom (grown case sites (turns_in line) (races_in line))
 
 -- what a line makes of the case, where it is in its bounds
 unfoldable pub Fits : Module → Case → Line → Progress → Type 0
@@ -152,14 +173,8 @@ Fits code case (Field field value) after =
     (least_of field ≤ value) × (value ≤ most_of field)
     × (after ≡ progress (Some (after_field field)) (with_field field value case))
 Fits code case (Input words) after = ⊥
-Fits code case (Watch words) after =
-    (sites : List Site) × AddsSite code case.watch words sites × (after ≡ progress (Some keywords.Watch) (record case { watch = sites }))
-Fits code case (Turns runs) after =
-    (turns : List ℕ) × AddsRuns runs case.turns turns × (after ≡ progress (Some keywords.Turn) (record case { turns = turns }))
-Fits code case (Race first second) after =
-    (first < 2 ^ 32) × (second < 2 ^ 32) × (length case.races < 1)
-    × (after ≡ progress (Some keywords.Race) (record case { races = case.races ++ (first, second) ∷ [] }))
 Fits code case End after = (case.visits * case.steps ≤ 2 ^ 24) × (after ≡ progress None case)
+Fits code case line after = AddsLine code case line after
 
 both_err : (b : Bool) (one other : CaseError) (after : Progress) → cond b (Err one) (Err other) ≡ Ok after → ⊥
 both_err true one other after is = cc
@@ -180,21 +195,78 @@ line_fits code number case (Field field value) after is =
     (leb-true _ _ parts.0, leb-true _ _ parts.1, sym (ok_is _ _ within.1))
 line_fits code number case (Input words) after is = both_err (is_input words) (errors.Slot number) (errors.Range number) after is
 line_fits code number case (Watch words) after is =
-    let sites = bind_ok (with_watch code number words case.watch) _ after is in
-    (sites.0, site_adds code number words case.watch sites.0 sites.1, sym (ok_is _ _ sites.2))
+    let made = bind_ok (with_watch code number words case.watch) _ after is in
+    let adds = site_adds code number words case.watch made.0 made.1 in
+    let more : made.0 ≡ case.watch ++ adds.site ∷ [] = adds.more_is in
+    record {
+      is_line = adds.inst;
+      uncut = omega (arith, adds.inst);
+      sites = adds.site ∷ [];
+      sites_are = ap (λ s. s ∷ []) (sym adds.site_is);
+      after_is =
+          sym (ok_is _ _ made.2)
+          ∙ (λ i. progress (Some keywords.Watch) (record case {
+            watch = more i;
+            turns = sym (append-nil case.turns) i;
+            races = sym (append-nil case.races) i;
+          }));
+      room = λ room. record {
+        watch = omega (arith, adds.room, length-append case.watch (adds.site ∷ []));
+        distinct = IsDistinct-push equal_sites case.watch adds.site room.distinct adds.apart;
+        turns = omega (arith, room.turns, length-append case.turns []);
+        races = omega (arith, room.races, length-append case.races []);
+      };
+    }
 line_fits code number case (Turns runs) after is =
-    let turns = bind_ok (or_error (errors.Range number) (with_runs runs case.turns)) _ after is in
-    (turns.0, runs_add runs case.turns turns.0 (or_error_ok _ _ _ turns.1), sym (ok_is _ _ turns.2))
+    let made = bind_ok (or_error (errors.Range number) (with_runs runs case.turns)) _ after is in
+    let adds = runs_add runs case.turns made.0 (or_error_ok _ _ _ made.1) in
+    let more : made.0 ≡ case.turns ++ turns_in (Turns runs) = adds.more_is in
+    record {
+      is_line = adds.each;
+      uncut = adds.uncut;
+      sites = [];
+      sites_are = refl;
+      after_is =
+          sym (ok_is _ _ made.2)
+          ∙ (λ i. progress (Some keywords.Turn) (record case {
+            watch = sym (append-nil case.watch) i;
+            turns = more i;
+            races = sym (append-nil case.races) i;
+          }));
+      room = λ room. record {
+        watch = omega (arith, room.watch, length-append case.watch []);
+        distinct = rw (append-nil case.watch) room.distinct;
+        turns = let few : length made.0 ≤ 20000 = adds.few room.turns in omega (arith, few, ap length more);
+        races = omega (arith, room.races, length-append case.races []);
+      };
+    }
 line_fits code number case (Race first second) after is =
-    let races = bind_ok (with_race number first second case.races) _ after is in
-    let within = guard_ok (is_race case.races first second) (errors.Range number) _ races.0 races.1 in
+    let made = bind_ok (with_race number first second case.races) _ after is in
+    let within = guard_ok (is_race case.races first second) (errors.Range number) _ made.0 made.1 in
     let parts = and_parts _ _ within.0 in
-    let front = and_parts _ _ parts.0 in (
-      ltb-true _ _ front.0,
-      ltb-true _ _ front.1,
-      ltb-true _ _ parts.1,
-      sym (ok_is _ _ races.2) ∙ ap (λ found. progress (Some keywords.Race) (record case { races = found })) (sym (ok_is _ _ within.1)),
-    )
+    let front = and_parts _ _ parts.0 in
+    let one : first < 2 ^ 32 = ltb-true _ _ front.0 in
+    let two : second < 2 ^ 32 = ltb-true _ _ front.1 in
+    let few : length case.races < 1 = ltb-true _ _ parts.1 in
+    record {
+      is_line = (one, two);
+      uncut = (omega arith, omega arith);
+      sites = [];
+      sites_are = refl;
+      after_is =
+          sym (ok_is _ _ made.2)
+          ∙ (λ i. progress (Some keywords.Race) (record case {
+            watch = sym (append-nil case.watch) i;
+            turns = sym (append-nil case.turns) i;
+            races = sym (ok_is _ _ within.1) i;
+          }));
+      room = λ room. record {
+        watch = omega (arith, room.watch, length-append case.watch []);
+        distinct = rw (append-nil case.watch) room.distinct;
+        turns = omega (arith, room.turns, length-append case.turns []);
+        races = omega (arith, few, length-append case.races ((first, second) ∷ []));
+      };
+    }
 line_fits code number case End after is =
     product_is (2 ^ 24) (case.visits * case.steps) (ltb (2 ^ 24) (case.visits * case.steps)) (errors.Range number) (progress None case) after refl is
 
@@ -202,9 +274,7 @@ line_fits code number case End after is =
 pub fits_uncut : (code : Module) (case : Case) (line : Line) (after : Progress) → Fits code case line after → AreUncut line
 unfolding Fits
 fits_uncut code case Heading after fits = tt
-fits_uncut code case (Field field value) after fits = below_cut field value fits.1
+fits_uncut code case (Field field value) after fits = omega (arith, fits.1, (field_bounds field).0)
 fits_uncut code case (Input words) after fits = absurd fits
-fits_uncut code case (Watch words) after fits = omega (arith, fits.1.inst)
-fits_uncut code case (Turns runs) after fits = fits.1.uncut
-fits_uncut code case (Race first second) after fits = (omega (arith, fits.0), omega (arith, fits.1))
 fits_uncut code case End after fits = tt
+fits_uncut code case line after fits = fits.uncut

@@ -1,5 +1,5 @@
 -- How a case is spelled: its text, line by line.
-use Rattle.std.specs.Prelude.{◌≡◌, ℕ, ◌*◌, ◌^◌, ◌<◌, ◌≤◌, true, List, [], ◌∷◌, ◌++◌, length, map, Some}
+use Rattle.std.specs.Prelude.{◌≡◌, ℕ, ◌*◌, ◌^◌, ◌<◌, ◌≤◌, List, [], ◌∷◌, ◌++◌, length, map, Some}
 use Rattle.std.specs.List.{AllByRecursion, IsDistinct, flat_map}
 use Rattle.ir_types.specs.declared.«module».Module.{Module}
 use Rattle.machine_model.specs.declared.case.Case.{Case}
@@ -10,9 +10,9 @@ use Rattle.case_text.specs.declared.keyword.Keyword.TheVariants as keywords
 use Rattle.case_text.specs.declared.line.Line.{Line}
 use Rattle.case_text.specs.declared.line.Line.TheVariants.{Heading, Field, Watch, Turns, Race, End}
 use Rattle.case_text.specs.Keyword.{rank_of}
-use Rattle.case_text.specs.Line.{keyword_in, line_text}
+use Rattle.case_text.specs.Line.{IsForm, keyword_in, line_text}
 use Rattle.case_text.specs.Watch.{site_of}
-use Rattle.case_text.specs.Words.{Watched, is_plain}
+use Rattle.case_text.specs.Words.{Watched}
 use Rattle.text_lines.specs.Part.{lines_text}
 use Rattle.text_lines.specs.RunWord.{count_of, run_turns}
 use Rattle.text_lines.specs.declared.run_word.RunWord.{RunWord}
@@ -34,10 +34,10 @@ races_in _ = []
 abbrev pub IsRun : RunWord → Type 0
 IsRun run = (run.thread < 16) × (0 < count_of run.times)
 
--- a watched site by the plain name of its function, some runs of turns, or a race
+-- a watched site, runs of turns, or a race, with its numbers in their bounds
 abbrev pub IsBodyLine : Line → Type 0
-IsBodyLine (Watch words) = (is_plain words.name ≡ true) × (words.inst < 2 ^ 32)
-IsBodyLine (Turns runs) = (0 < length runs) × AllByRecursion IsRun runs
+IsBodyLine (Watch words) = words.inst < 2 ^ 32
+IsBodyLine (Turns runs) = AllByRecursion IsRun runs
 IsBodyLine (Race first second) = (first < 2 ^ 32) × (second < 2 ^ 32)
 IsBodyLine _ = ⊥
 
@@ -78,6 +78,7 @@ pub record IsWithinBounds (case : Case) : Type 0 where
 pub record Spells (code : Module) (text : List ℕ) (case : Case) (body : List Line) : Type 0 where
   pub text_is : text ≡ lines_text (map line_text (case_lines case body))
   pub body_lines : AllByRecursion IsBodyLine body
+  pub forms : AllByRecursion IsForm body
   pub in_order : AreInOrder keywords.Input body
   pub sites_are : map Some case.watch ≡ map (site_of code) (flat_map watched_in body)
   pub turns_are : case.turns ≡ flat_map turns_in body

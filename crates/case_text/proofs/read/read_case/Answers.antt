@@ -1,4 +1,4 @@
-use Rattle.std.proofs.Common.{rules, ◌≡◌, ℕ, ◌≤◌, true, List, [], ◌∷◌, length, Ok, refl, ap, ◌∙◌, sym}
+use Rattle.std.proofs.Common.{rules, ◌≡◌, ℕ, true, List, [], ◌∷◌, Ok, refl, ◌∙◌, sym}
 use Rattle.ir_types.specs.declared.«module».Module.{Module}
 use Rattle.case_text.specs.declared.progress.Progress.{Progress}
 use Rattle.case_text.specs.Laws.{IsWithinBounds}
