@@ -1,7 +1,6 @@
 pub mod Block
 pub mod Input
 pub mod Items
-pub mod Laws
 pub mod Lines
 pub mod Outcome
 pub mod Replay

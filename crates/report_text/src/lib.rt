@@ -4,13 +4,11 @@
 //! - `report`, `block`: the text of the classes of some races, and the block of one
 //! - `turns`, `items`, `outcome`, `input`: what stands in their lines
 //! - `numbers`: decimal and hexadecimal numbers
-//! - `laws`: what holds of the runs of turns that are printed
 #![tactic(auto)]
 
 mod block;
 mod input;
 mod items;
-pub mod laws;
 mod numbers;
 mod outcome;
 mod replay;

@@ -1,3 +1,4 @@
 pub mod Number
 pub mod Part
 pub mod RunWord
+pub mod ThreadRun

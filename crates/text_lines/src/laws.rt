@@ -4,8 +4,10 @@ ghost use Rattle.std.specs.Prelude.{◌≡◌, ℕ, ◌<◌, List, ◌∷◌, �
 ghost use Rattle.std.specs.List.{AllByRecursion, join_with_byte};
 ghost use Rattle.text_lines.specs.Number.{cut, number_of};
 ghost use Rattle.text_lines.specs.Part.{Lacks, lines_text, parts_of};
-ghost use Rattle.text_lines.specs.RunWord.{IsUncut, run_text, run_word_of};
+ghost use Rattle.text_lines.specs.RunWord.{IsUncut, run_text, run_turns, run_word_of};
+ghost use Rattle.text_lines.specs.ThreadRun.{AreLongest, expanded, shortest, thread_runs, turns_of};
 ghost use Rattle.text_lines.specs.declared.run_word.RunWord.{RunWord as Word};
+ghost use Rattle.text_lines.specs.declared.thread_run.ThreadRun.{ThreadRun};
 
 /// The parts of a text, joined by the byte, are the text, and parts that are joined are the parts again.
 pub fn parts_are_joined()
@@ -30,4 +32,13 @@ pub fn numbers_are_decimal()
 pub fn runs_are_spelled()
     ensures spelled { (run : Word) → IsUncut run → run_word_of (run_text run) ≡ Some run }
     ensures only { (run : Word) (word : List ℕ) → IsUncut run → run_word_of word ≡ Some run → word ≡ run_text run }
+{}
+
+/// The longest runs of some turns stand for them, each spelling stands for its run, and no other longest runs stand
+/// for the same turns.
+pub fn longest_runs_are_unique()
+    ensures turns { (turns : List ℕ) → expanded (thread_runs turns) ≡ turns }
+    ensures spelled { (run : ThreadRun) → run_turns (shortest run) ≡ turns_of run }
+    ensures longest { (turns : List ℕ) → AreLongest (thread_runs turns) }
+    ensures unique { (runs : List ThreadRun) → AreLongest runs → thread_runs (expanded runs) ≡ runs }
 {}

@@ -1,5 +1,6 @@
 use Rattle.std.proofs.Common.{rules}
-use Rattle.report_text.specs.Turns.{run_text, thread_runs}
+use Rattle.report_text.specs.Turns.{thread_text}
+use Rattle.text_lines.specs.ThreadRun.{thread_runs}
 use Rattle.report_text.proofs.Words.{words-begun}
 use Rattle.report_text.proofs.turns.push_turns.Goals as goal
 
@@ -8,7 +9,7 @@ unfolding thread_runs
 returns-in_default c = let none = c.in_default.ensures.runs in search rules
 
 pub loop-run-init : goal.loop-run-init
-loop-run-init c = words-begun run_text _ _ _ _ _ c.in-Some.ensures.runs c.in_ok-push_run.ensures
+loop-run-init c = words-begun thread_text _ _ _ _ _ c.in-Some.ensures.runs c.in_ok-push_run.ensures
 
 pub returns : goal.returns
 unfolding thread_runs

@@ -1,9 +1,9 @@
--- The runs of some turns are the only maximal ones that stand for them.
-use Rattle.std.proofs.Common.{◌≡◌, ℕ, zero, suc, ◌+◌, ◌<◌, Bool, true, false, cond, eqb, List, [], ◌∷◌, ◌++◌, replicate, refl, sym, ap, subst, ◌∙◌, add-one, arith}
+-- The runs of some turns are the only longest ones that stand for them.
+use Rattle.std.proofs.Common.{◌≡◌, ℕ, Some, None, zero, suc, ◌+◌, ◌<◌, Bool, true, false, cond, eqb, List, [], ◌∷◌, ◌++◌, replicate, refl, sym, ap, subst, ◌∙◌, add-one, arith}
 use Rattle.std.proofs.lemmas.Bool.{eq-eqb, eqb-true, ne_eqb, eqb-false}
-use Rattle.report_text.specs.declared.turns.ThreadRun.{ThreadRun}
-use Rattle.report_text.specs.Laws.{AreMaximal, BeginsWithOther, expanded}
-use Rattle.report_text.specs.Turns.{onto_runs, run_of, thread_runs}
+use Rattle.text_lines.specs.declared.thread_run.ThreadRun.{ThreadRun}
+use Rattle.text_lines.specs.ThreadRun.{AreLongest, BeginsWithOther, expanded, onto_runs, run_of, shortest, thread_runs, turns_of}
+use Rattle.text_lines.specs.RunWord.{run_turns, run_word}
 
 -- a turn before some runs, by whether the first of them is of the same thread
 abbrev joined : ℕ → ThreadRun → List ThreadRun → Bool → List ThreadRun
@@ -32,20 +32,20 @@ other_thread : (thread turn : ℕ) (runs : List ThreadRun) → turn ≡ thread �
 other_thread thread turn [] same other = tt
 other_thread thread turn (run ∷ runs) same other = λ is. other (is ∙ sym same)
 
-maximal-joined : (thread : ℕ) (run : ThreadRun) (runs : List ThreadRun) (same : Bool) →
-    eqb run.thread thread ≡ same → AreMaximal (run ∷ runs) → AreMaximal (joined thread run runs same)
-maximal-joined thread run runs true test maximal =
-    (omega arith, other_thread thread run.thread runs (eqb-true run.thread thread test) maximal.1, maximal.2)
-maximal-joined thread run runs false test maximal = (omega arith, eqb-false run.thread thread test, maximal)
+longest-joined : (thread : ℕ) (run : ThreadRun) (runs : List ThreadRun) (same : Bool) →
+    eqb run.thread thread ≡ same → AreLongest (run ∷ runs) → AreLongest (joined thread run runs same)
+longest-joined thread run runs true test longest =
+    (omega arith, other_thread thread run.thread runs (eqb-true run.thread thread test) longest.1, longest.2)
+longest-joined thread run runs false test longest = (omega arith, eqb-false run.thread thread test, longest)
 
-maximal-onto_runs : (thread : ℕ) (runs : List ThreadRun) → AreMaximal runs → AreMaximal (onto_runs thread runs)
-maximal-onto_runs thread [] maximal = (omega arith, tt, tt)
-maximal-onto_runs thread (run ∷ runs) maximal = maximal-joined thread run runs (eqb run.thread thread) refl maximal
+longest-onto_runs : (thread : ℕ) (runs : List ThreadRun) → AreLongest runs → AreLongest (onto_runs thread runs)
+longest-onto_runs thread [] longest = (omega arith, tt, tt)
+longest-onto_runs thread (run ∷ runs) longest = longest-joined thread run runs (eqb run.thread thread) refl longest
 
-pub AreMaximal-thread_runs : (turns : List ℕ) → AreMaximal (thread_runs turns)
+pub AreLongest-thread_runs : (turns : List ℕ) → AreLongest (thread_runs turns)
 unfolding thread_runs
-AreMaximal-thread_runs [] = tt
-AreMaximal-thread_runs (thread ∷ turns) = maximal-onto_runs thread (thread_runs turns) (AreMaximal-thread_runs turns)
+AreLongest-thread_runs [] = tt
+AreLongest-thread_runs (thread ∷ turns) = longest-onto_runs thread (thread_runs turns) (AreLongest-thread_runs turns)
 
 -- a turn of another thread begins a run
 onto_runs-other : (thread : ℕ) (runs : List ThreadRun) → BeginsWithOther thread runs →
@@ -74,9 +74,16 @@ thread_runs-front thread (suc more) runs turns some other is =
     thread_runs-replicate thread more turns (subst (BeginsWithOther thread) (sym is) other)
     ∙ ap (λ runs. run_of thread (suc more) ∷ runs) is
 
-pub thread_runs-expanded : (runs : List ThreadRun) → AreMaximal runs → thread_runs (expanded runs) ≡ runs
+pub thread_runs-expanded : (runs : List ThreadRun) → AreLongest runs → thread_runs (expanded runs) ≡ runs
 unfolding thread_runs
-thread_runs-expanded [] maximal = refl
-thread_runs-expanded (run ∷ runs) maximal =
-    thread_runs-front run.thread run.count runs (expanded runs) maximal.0 maximal.1
-    (thread_runs-expanded runs maximal.2)
+thread_runs-expanded [] longest = refl
+thread_runs-expanded (run ∷ runs) longest =
+    thread_runs-front run.thread run.count runs (expanded runs) longest.0 longest.1
+    (thread_runs-expanded runs longest.2)
+
+by_one : (one : Bool) (thread count : ℕ) → eqb count 1 ≡ one → run_turns (run_word thread (cond one None (Some count))) ≡ replicate count thread
+by_one true thread count is = ap (λ n. replicate n thread) (sym (eqb-true count 1 is))
+by_one false thread count is = refl
+
+pub shortest_stands : (run : ThreadRun) → run_turns (shortest run) ≡ turns_of run
+shortest_stands run = by_one (eqb run.count 1) run.thread run.count refl

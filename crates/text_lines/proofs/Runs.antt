@@ -3,8 +3,8 @@ use Rattle.std.proofs.Common.{◌==◌, ◌-◌, Some, take, slice_get, ◌≡�
 use Rattle.std.proofs.lemmas.Bool.{eq-eqb, eqb-true}
 use Rattle.std.proofs.lemmas.List.{take_rest}
 use Rattle.std.specs.List.{prefix_len}
-use Rattle.report_text.specs.Turns.{onto_runs, run_of, thread_runs}
-use Rattle.report_text.specs.declared.turns.ThreadRun.{ThreadRun}
+use Rattle.text_lines.specs.ThreadRun.{onto_runs, run_of, thread_runs}
+use Rattle.text_lines.specs.declared.thread_run.ThreadRun.{ThreadRun}
 
 abbrev is_of : ℕ → ℕ → Bool
 is_of thread turn = eqb turn thread

@@ -1,6 +1,6 @@
 use Rattle.std.proofs.Common.{sym}
-use Rattle.report_text.proofs.Runs.{front_run}
-use Rattle.report_text.proofs.turns.split_first_run.Goals as goal
+use Rattle.text_lines.proofs.Runs.{front_run}
+use Rattle.text_lines.proofs.thread_run.split_first_run.Goals as goal
 
 pub returns-clause-runs : goal.returns-clause-runs
 returns-clause-runs c =
