@@ -4,7 +4,7 @@ use Rattle.std.proofs.lemmas.List.{drop_more}
 use Rattle.ir_types.specs.declared.«module».Module.{Module}
 use Rattle.report_text.specs.declared.report.RaceReport.{RaceReport}
 use Rattle.report_text.specs.Block.{block_lines}
-use Rattle.report_text.specs.Lines.{lines_text}
+use Rattle.text_lines.specs.Part.{lines_text}
 use Rattle.report_text.specs.Report.{blocks_from}
 use Rattle.report_text.proofs.Lines.{lines_text_append}
 

@@ -3,7 +3,7 @@ use Rattle.std.specs.Prelude.{ℕ, ◌+◌, List, [], ◌∷◌, ◌++◌, codes
 use Rattle.ir_types.specs.declared.«module».Module.{Module}
 use Rattle.report_text.specs.declared.report.RaceReport.{RaceReport}
 use Rattle.report_text.specs.Block.{block_lines}
-use Rattle.report_text.specs.Lines.{lines_text}
+use Rattle.text_lines.specs.Part.{lines_text}
 
 -- the blocks of the races from this number on
 unfoldable pub blocks_from : Module → ℕ → List RaceReport → List (List ℕ)

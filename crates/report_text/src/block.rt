@@ -5,7 +5,7 @@ ghost use Rattle.std.specs.List.{flat_map};
 ghost use Rattle.report_text.specs.Block.{block_lines, class_text, evidence_lines, harmless_lines, line, pair_text, race_line, reason_name};
 ghost use Rattle.report_text.specs.Input.{input_text};
 ghost use Rattle.report_text.specs.Items.{items_text};
-ghost use Rattle.report_text.specs.Lines.{lines_text};
+ghost use Rattle.text_lines.specs.Part.{lines_text};
 ghost use Rattle.report_text.specs.Outcome.{outcome_text};
 ghost use Rattle.report_text.specs.Turns.{turns_text};
 

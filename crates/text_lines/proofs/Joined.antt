@@ -1,5 +1,5 @@
 -- Texts in which a byte does not stand, and how they are parted at it.
-use Rattle.std.proofs.Common.{◌≡◌, ℕ, Bool, true, false, eqb, eq-eqb, eqb-true, List, [], ◌∷◌, ◌++◌, refl, ap, ◌∙◌, sym, append_assoc}
+use Rattle.std.proofs.Common.{◌≡◌, ℕ, Bool, true, false, eqb, eq-eqb, eqb-true, List, [], ◌∷◌, ◌++◌, refl, ap, ◌∙◌, sym, append-nil, append_assoc}
 use Rattle.std.specs.Prelude.{codes}
 use Rattle.std.specs.List.{AllByRecursion, join_with_byte, list_all}
 use Rattle.std.proofs.lemmas.Bool.{and_parts}
@@ -53,13 +53,15 @@ pub lines_parted : (lines : List (List ℕ)) (rest : List ℕ) → AllByRecursio
     parts_of 10 (lines_text lines ++ rest) ≡ lines ++ parts_of 10 rest
 lines_parted [] rest lack = refl
 lines_parted (line ∷ lines) rest lack =
-    ap (parts_of 10) (append_assoc line (codes "\n" ++ lines_text lines) rest)
+    ap (parts_of 10) (append_assoc (line ++ codes "\n") (lines_text lines) rest ∙ append_assoc line (codes "\n") (lines_text lines ++ rest))
     ∙ part_before 10 line (lines_text lines ++ rest) lack.0
     ∙ ap (λ parts. line ∷ parts) (lines_parted lines rest lack.1)
 
 pub lines_joined : (lines : List (List ℕ)) (last : List ℕ) → join_with_byte 10 (lines ++ last ∷ []) ≡ lines_text lines ++ last
 lines_joined [] last = refl
-lines_joined (line ∷ []) last = sym (append_assoc line (10 ∷ []) last)
+lines_joined (line ∷ []) last =
+    sym (append_assoc line (codes "\n") last) ∙ ap (λ text. text ++ last) (sym (append-nil (line ++ codes "\n")))
 lines_joined (line ∷ next ∷ lines) last =
     ap (λ rest. line ++ 10 ∷ rest) (lines_joined (next ∷ lines) last)
-    ∙ sym (append_assoc line (10 ∷ lines_text (next ∷ lines)) last)
+    ∙ sym (append_assoc line (codes "\n") (lines_text (next ∷ lines) ++ last))
+    ∙ sym (append_assoc (line ++ codes "\n") (lines_text (next ∷ lines)) last)

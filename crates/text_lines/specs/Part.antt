@@ -18,4 +18,4 @@ Lacks byte text = AllByRecursion (λ b. (b == byte) ≡ false) text
 -- each line with its line feed
 abbrev pub lines_text : List (List ℕ) → List ℕ
 lines_text [] = []
-lines_text (line ∷ lines) = line ++ (codes "\n" ++ lines_text lines)
+lines_text (line ∷ lines) = line ++ codes "\n" ++ lines_text lines

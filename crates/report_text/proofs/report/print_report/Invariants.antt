@@ -1,5 +1,5 @@
 use Rattle.std.proofs.Common.{◌≡◌, ◌+◌, ◌++◌, [], ◌∷◌, codes, drop}
-use Rattle.report_text.specs.Lines.{lines_text}
+use Rattle.text_lines.specs.Part.{lines_text}
 use Rattle.report_text.specs.Report.{blocks_from, report_text}
 use Rattle.report_text.proofs.report.print_report.Given as goal
 
