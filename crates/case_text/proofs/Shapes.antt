@@ -14,15 +14,14 @@ use Rattle.case_text.specs.declared.keyword.Keyword.TheVariants as keywords
 use Rattle.case_text.specs.declared.line.Line.{Line}
 use Rattle.case_text.specs.declared.line.Line.TheVariants.{Heading, Field, Input, Watch, Turns, Race, End}
 use Rattle.case_text.specs.Keyword.{keyword_of, keywords as every_keyword, rank_of, text_of}
-use Rattle.case_text.specs.Line.{AreUncut, IsForm, heading_with, input_line, keyword_in, line_of, line_of_words, line_text, line_with, operands_of, race_line, turns_line}
+use Rattle.case_text.specs.Line.{AreUncut, IsForm, heading_with, input_line, keyword_in, line_of, line_of_words, line_text, line_with, operands_of, race_line}
 use Rattle.case_text.specs.Words.{Watched, is_name_byte, is_plain, watch_words, watched}
 use Rattle.text_lines.specs.Number.{cut, one_number, three_numbers, two_numbers}
 use Rattle.text_lines.specs.Part.{Lacks, parts_of}
-use Rattle.text_lines.specs.RunWord.{run_words_of}
-use Rattle.text_lines.specs.declared.run_word.RunWord.{RunWord}
+use Rattle.text_lines.specs.RunWord.{some_run_words}
 use Rattle.text_lines.proofs.Decimals.{decimal_lacks, number_again}
 use Rattle.text_lines.proofs.Joined.{joined_again, lacks_joined, parts_joined, passing_lack}
-use Rattle.text_lines.proofs.Spelled.{one_is, option_map_is, runs_again, runs_are, runs_lack, three_are, two_are}
+use Rattle.text_lines.proofs.Spelled.{one_is, option_map_is, runs_again, runs_lack, some_are, three_are, two_are}
 
 -- what holds of a line that is read from these words
 abbrev Reads : Keyword → List (List ℕ) → Line → Type 0
@@ -43,12 +42,6 @@ watch_is : (words : List (List ℕ)) (found : Watched) → found.inst < cut → 
     (words ≡ found.name ∷ decimal found.inst ∷ []) × (is_plain found.name ≡ true)
 watch_is [] found small is = cc
 watch_is (name ∷ words) found small is = watch_by (is_plain name) name words found small refl is
-
-turns_are : (words : List (List ℕ)) (runs : List RunWord) (line : Line) → run_words_of words ≡ Some runs → turns_line runs ≡ Some line →
-    Reads keywords.Turn words line
-turns_are words [] line is_runs is = cc
-turns_are words (run ∷ runs) line is_runs is =
-    subst (Reads keywords.Turn words) (same_Some _ _ is) (λ small. (refl, runs_are words (run ∷ runs) small is_runs, omega arith))
 
 line_is : (keyword : Keyword) (words : List (List ℕ)) (line : Line) → line_with keyword words ≡ Some line → Reads keyword words line
 line_is keywords.Heading words line is =
@@ -72,7 +65,8 @@ line_is keywords.Watch words line is =
     let read = option_map_is Watch (watch_words words) line is in
     subst (Reads keywords.Watch words) read.2 (λ small. let found = watch_is words read.0 small read.1 in (refl, found.0, found.1))
 line_is keywords.Turn words line is =
-    option_and_then_some turns_line (run_words_of words) line is (λ runs is_runs is_line. turns_are words runs line is_runs is_line)
+    let read = option_map_is Turns (some_run_words words) line is in
+    subst (Reads keywords.Turn words) read.2 (λ small. let are = some_are words read.0 small read.1 in (refl, are.0, are.1))
 line_is keywords.Race words line is =
     let read = option_map_is race_line (two_numbers words) line is in
     subst (Reads keywords.Race words) read.2 (λ small. (refl, two_are read.0.0 read.0.1 words small.0 small.1 read.1, tt))
@@ -158,7 +152,7 @@ operands_again (Input words) small form =
     rw (number_again words.slot small.0, number_again words.width small.1, number_again words.value small.2) refl
 operands_again (Watch words) small form = rw (form, number_again words.inst small) refl
 operands_again (Turns []) small form = absurd (omega arith)
-operands_again (Turns (run ∷ runs)) small form = ap (option_and_then turns_line) (runs_again (run ∷ runs) small)
+operands_again (Turns (run ∷ runs)) small form = ap (option_map Turns) (runs_again (run ∷ runs) small)
 operands_again (Race first second) small form = rw (number_again first small.0, number_again second small.1) refl
 operands_again End small form = refl
 
@@ -173,3 +167,8 @@ line_again line small form =
 pub line_lacks_feed : (line : Line) → AreUncut line → IsForm line → Lacks 10 (line_text line)
 line_lacks_feed line small form =
     lacks_joined 10 (text_of (keyword_in line) ∷ operands_of line) refl (words_lack 10 (refl, refl, refl) line small form)
+
+pub line_spelled : (text : List ℕ) (line : Line) → AreUncut line →
+    (line_of text ≡ Some line → (text ≡ line_text line) × IsForm line) × ((text ≡ line_text line) × IsForm line → line_of text ≡ Some line)
+line_spelled text line small =
+    (line_read text line small, λ spelled. rw spelled.0 (line_again line small spelled.1))

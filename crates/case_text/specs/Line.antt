@@ -9,8 +9,7 @@ use Rattle.case_text.specs.Keyword.{keyword_of, text_of}
 use Rattle.case_text.specs.Words.{is_plain, watch_words}
 use Rattle.text_lines.specs.Number.{cut, one_number, three_numbers, two_numbers}
 use Rattle.text_lines.specs.Part.{parts_of}
-use Rattle.text_lines.specs.RunWord.{IsUncut, run_text, run_words_of}
-use Rattle.text_lines.specs.declared.run_word.RunWord.{RunWord}
+use Rattle.text_lines.specs.RunWord.{IsUncut, run_text, some_run_words}
 
 -- the words behind a keyword
 abbrev pub heading_with : ℕ → Option Line
@@ -22,10 +21,6 @@ input_line numbers = Input (record { slot = numbers.0; width = numbers.1; value 
 abbrev pub race_line : ℕ × ℕ → Line
 race_line turns = Race turns.0 turns.1
 
-abbrev pub turns_line : List RunWord → Option Line
-turns_line [] = None
-turns_line (run ∷ runs) = Some (Turns (run ∷ runs))
-
 abbrev pub end_line : List (List ℕ) → Option Line
 end_line [] = Some End
 end_line (word ∷ words) = None
@@ -35,7 +30,7 @@ line_with keywords.Heading words = option_and_then heading_with (one_number word
 line_with (keywords.Field field) words = option_map (Field field) (one_number words)
 line_with keywords.Input words = option_map input_line (three_numbers words)
 line_with keywords.Watch words = option_map Watch (watch_words words)
-line_with keywords.Turn words = option_and_then turns_line (run_words_of words)
+line_with keywords.Turn words = option_map Turns (some_run_words words)
 line_with keywords.Race words = option_map race_line (two_numbers words)
 line_with keywords.End words = end_line words
 

@@ -19,12 +19,14 @@ pub fn a_line_is_its_spelling()
 {}
 
 /// An accepted text is the lines of its case, each byte of it.
+#[tactic(auto, using(crate::proofs::Accepted::accepted))]
 pub fn accepted_text_is_its_lines()
     ensures { (code : Module) (text : List ℕ) (case : Recorded) → case_of code text ≡ Ok case →
         (body : List Line) × Spells code text case body }
 {}
 
 /// What is spelled so is accepted, as the case that it spells.
+#[tactic(auto, using(crate::proofs::Spelled::spelled))]
 pub fn spelled_text_is_accepted()
     ensures { (code : Module) (text : List ℕ) (case : Recorded) (body : List Line) →
         Spells code text case body → case_of code text ≡ Ok case }
@@ -33,6 +35,7 @@ pub fn spelled_text_is_accepted()
 /// A text that is refused at a line is refused so by the lines up to that one: whatever follows them, the same line
 /// is refused for the same reason. A line that lacks its line feed is none of these lines, since what ends there may
 /// go on.
+#[tactic(auto, using(crate::proofs::Refused::refused))]
 pub fn refused_line_is_never_accepted()
     ensures { (code : Module) (lines : List (List ℕ)) (rest other : List ℕ) (error : CaseError) →
         AllByRecursion (Lacks 10) lines → place_of error ≡ length lines →

@@ -1,9 +1,8 @@
 //! A line by its shape alone.
 
 ghost use Rattle.std.specs.Prelude.{◌≡◌, option_and_then, option_map};
-ghost use Rattle.case_text.specs.Line.{heading_with, input_line, keyword_in, line_of, line_with, race_line, turns_line};
+ghost use Rattle.case_text.specs.Line.{heading_with, input_line, keyword_in, line_of, line_with, race_line};
 ghost use Rattle.text_lines.specs.Number.{one_number, three_numbers, two_numbers};
-ghost use Rattle.text_lines.specs.RunWord.{run_words_of};
 
 use crate::keyword::{Field, Keyword};
 use crate::words::{InputWords, WatchWords};
@@ -41,7 +40,7 @@ impl<'s> Line<'s> {
             Keyword::Field(field) => Some(Line::Field(field, one_number(words)?)),
             Keyword::Input => Line::input(words),
             Keyword::Watch => Some(Line::Watch(WatchWords::read(words)?)),
-            Keyword::Turn => Line::turns(words),
+            Keyword::Turn => Some(Line::Turns(RunWords::read(words)?)),
             Keyword::Race => Line::race(words),
             Keyword::End => {
                 if words.is_empty() {
@@ -68,15 +67,6 @@ impl<'s> Line<'s> {
     {
         let (slot, width, value) = three_numbers(words)?;
         Some(Line::Input(InputWords { slot, width, value }))
-    }
-
-    fn turns(words: Parts<'s>) -> Option<Line<'s>>
-        ensures { result ≡ option_and_then turns_line (run_words_of words.entry) }
-    {
-        if words.is_empty() {
-            return None;
-        }
-        Some(Line::Turns(RunWords::read(words)?))
     }
 
     fn race(words: Parts<'s>) -> Option<Line<'s>>

@@ -12,7 +12,7 @@ use Rattle.text_lines.specs.Number.{cut, has_leading_zero, is_numeral, number_of
 use Rattle.text_lines.specs.Part.{Lacks}
 use Rattle.text_lines.proofs.Joined.{passing_lack}
 
-own : IsNumeralModel (λ ds. list_all is_ascii_digit ds ≡ true) (digits_value 10)
+pub own : IsNumeralModel (λ ds. list_all is_ascii_digit ds ≡ true) (digits_value 10)
 own = numerals_by_value _ (search rules)
 
 not_empty : (n : ℕ) → not (eqb n 0) ≡ true → 0 < n
@@ -21,17 +21,21 @@ not_empty n is = grind (arith, tests)
 one_digit : (n d : ℕ) → not (ltb 1 n && eqb d 48) ≡ true → d ≡ 48 → n ≤ 1
 one_digit n d is zero = grind (arith, tests)
 
+pub numeral_parts : (word : List ℕ) → is_numeral word ≡ true →
+    (list_all is_ascii_digit word ≡ true) × (0 < length word) × (get_or word 0 0 ≡ 48 → length word ≡ 1)
+numeral_parts word is =
+    let parts = and_parts _ _ is in
+    let front = and_parts _ _ parts.0 in
+    let some : 0 < length word = not_empty (length word) front.0 in
+    (parts.1, some, λ zero. omega (arith, some, one_digit (length word) (get_or word 0 0) front.1 zero))
+
 pub number_is : (n : ℕ) (word : List ℕ) → n < cut → number_of word ≡ Some n → word ≡ decimal n
 unfolding number_of
 number_is n word small is =
     let some = cond_some (is_numeral word) (min (digits_value 10 word) cut) n is in
-    let parts = and_parts _ _ some.0 in
-    let front = and_parts _ _ parts.0 in
-    let nonempty : 0 < length word = not_empty (length word) front.0 in
+    let parts = numeral_parts word some.0 in
     let value : digits_value 10 word ≡ n = omega (arith, some.1) in
-    sym (decimal-digits_value own word parts.1 nonempty
-    (λ zero. omega (arith, nonempty, one_digit (length word) (get_or word 0 0) front.1 zero)) (omega (arith, value)))
-    ∙ ap decimal value
+    sym (decimal-digits_value own word parts.0 parts.1 parts.2 (omega (arith, value))) ∙ ap decimal value
 
 pub decimal_lacks : (byte n : ℕ) → is_ascii_digit byte ≡ false → n < cut → Lacks byte (decimal n)
 decimal_lacks byte n other small = passing_lack is_ascii_digit byte (decimal n) other (digits_decimal own n small)

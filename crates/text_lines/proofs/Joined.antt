@@ -45,6 +45,9 @@ lacks_joined byte (word ∷ []) space lacks = lacks.0
 lacks_joined byte (word ∷ next ∷ words) space lacks =
     lacks_append byte word (32 ∷ join_with_byte 32 (next ∷ words)) lacks.0 (space, lacks_joined byte (next ∷ words) space lacks.1)
 
+pub text_joined : (byte : ℕ) (text : List ℕ) → join_with_byte byte (parts_of byte text) ≡ text
+text_joined byte text = join_with_byte-slice_split byte text
+
 pub joined_again : (byte : ℕ) (text : List ℕ) (parts : List (List ℕ)) → parts_of byte text ≡ parts → text ≡ join_with_byte byte parts
 joined_again byte text parts is = sym (join_with_byte-slice_split byte text) ∙ ap (join_with_byte byte) is
 

@@ -2,6 +2,5 @@ pub mod Decimals
 pub mod FirstPart
 pub mod Joined
 pub mod Longest
-pub mod Numerals
 pub mod Runs
 pub mod Spelled

@@ -87,3 +87,5 @@ by_one false thread count is = refl
 
 pub shortest_stands : (run : ThreadRun) → run_turns (shortest run) ≡ turns_of run
 shortest_stands run = by_one (eqb run.count 1) run.thread run.count refl
+
+pub ruleset longest_laws = (expanded-thread_runs, shortest_stands, AreLongest-thread_runs, thread_runs-expanded)

@@ -1,12 +1,13 @@
 -- Numbers and runs in words of their own: what is read is so spelled, and it is read again.
-use Rattle.std.proofs.Common.{◌≡◌, ℕ, ◌<◌, false, eqb, List, [], ◌∷◌, ◌++◌, map, Option, Some, None, refl, ap, ◌∙◌, sym, append-nil, subst, arith}
+use Rattle.std.proofs.Common.{◌≡◌, ℕ, ◌<◌, false, eqb, List, [], ◌∷◌, ◌++◌, length, map, Option, Some, None, refl, ap, ◌∙◌, sym, append-nil, subst, arith}
 use Rattle.std.specs.Prelude.{decimal, option_map}
 use Rattle.std.specs.Char.{is_ascii_digit}
 use Rattle.std.specs.List.{AllByRecursion, join_with_byte}
+use Rattle.std.proofs.lemmas.List.{length-map}
 use Rattle.std.proofs.lemmas.Option.{option_and_then_some, same_Some}
 use Rattle.text_lines.specs.Number.{cut, number_of, one_number, three_numbers, two_numbers}
 use Rattle.text_lines.specs.Part.{Lacks, parts_of}
-use Rattle.text_lines.specs.RunWord.{IsUncut, count_of, run_of_parts, run_text, run_word, run_word_of, run_words_of, times_text}
+use Rattle.text_lines.specs.RunWord.{IsUncut, count_of, run_of_parts, run_text, run_word, run_word_of, run_words_of, some_run_words, times_text}
 use Rattle.text_lines.specs.declared.run_word.RunWord.{RunWord}
 use Rattle.text_lines.proofs.Decimals.{decimal_lacks, number_again, number_is}
 use Rattle.text_lines.proofs.Joined.{joined_again, lacks_append, part_before, part_whole}
@@ -102,6 +103,17 @@ runs_are (word ∷ words) runs small is =
     ap (λ w. w ∷ words) (run_is run word uncut.0 is_run)
     ∙ ap (λ ws. run_text run ∷ ws) (runs_are words others.0 uncut.1 others.1)
     ∙ ap (map run_text) others.2)
+
+pub some_of : (words : List (List ℕ)) → (words ≡ [] → ⊥) → some_run_words words ≡ run_words_of words
+some_of [] some = absurd (some refl)
+some_of (word ∷ words) some = refl
+
+pub some_are : (words : List (List ℕ)) (runs : List RunWord) → AllByRecursion IsUncut runs → some_run_words words ≡ Some runs →
+    (words ≡ map run_text runs) × (0 < length runs)
+some_are [] runs small is = cc
+some_are (word ∷ words) runs small is =
+    let are = runs_are (word ∷ words) runs small is in
+    (are, omega (arith, simp length-map at (ap length are)))
 
 pub runs_again : (runs : List RunWord) → AllByRecursion IsUncut runs → run_words_of (map run_text runs) ≡ Some runs
 runs_again [] small = refl

@@ -22,6 +22,11 @@ abbrev pub run_words_of : List (List ℕ) → Option (List RunWord)
 run_words_of [] = Some []
 run_words_of (word ∷ words) = option_and_then (λ run. option_map (λ runs. run ∷ runs) (run_words_of words)) (run_word_of word)
 
+-- the same of one word or more
+abbrev pub some_run_words : List (List ℕ) → Option (List RunWord)
+some_run_words [] = None
+some_run_words (word ∷ words) = run_words_of (word ∷ words)
+
 abbrev pub times_text : Option ℕ → List ℕ
 times_text None = []
 times_text (Some times) = 42 ∷ decimal times

@@ -10,6 +10,7 @@ ghost use Rattle.text_lines.specs.declared.run_word.RunWord.{RunWord as Word};
 ghost use Rattle.text_lines.specs.declared.thread_run.ThreadRun.{ThreadRun};
 
 /// The parts of a text, joined by the byte, are the text, and parts that are joined are the parts again.
+#[tactic(auto, using(crate::proofs::Joined::parts_joined, crate::proofs::Joined::text_joined))]
 pub fn parts_are_joined()
     ensures joined { (byte : ℕ) (text : List ℕ) → join_with_byte byte (parts_of byte text) ≡ text }
     ensures parted { (byte : ℕ) (part : List ℕ) (parts : List (List ℕ)) → Lacks byte part → AllByRecursion (Lacks byte) parts →
@@ -17,18 +18,21 @@ pub fn parts_are_joined()
 {}
 
 /// Lines with their line feeds, before any text, are parts of it.
+#[tactic(auto, using(crate::proofs::Joined::lines_parted))]
 pub fn lines_are_parts()
     ensures { (lines : List (List ℕ)) (rest : List ℕ) → AllByRecursion (Lacks 10) lines →
         parts_of 10 (lines_text lines ++ rest) ≡ lines ++ parts_of 10 rest }
 {}
 
 /// The one word of a number that is not cut is its decimal.
+#[tactic(auto, using(crate::proofs::Decimals::number_again, crate::proofs::Decimals::number_is))]
 pub fn numbers_are_decimal()
     ensures spelled { (number : ℕ) → number < cut → number_of (decimal number) ≡ Some number }
     ensures only { (number : ℕ) (word : List ℕ) → number < cut → number_of word ≡ Some number → word ≡ decimal number }
 {}
 
 /// A run that is spelled is read back, and the word of a run whose numbers are not cut is its spelling.
+#[tactic(auto, using(crate::proofs::Spelled::run_again, crate::proofs::Spelled::run_is))]
 pub fn runs_are_spelled()
     ensures spelled { (run : Word) → IsUncut run → run_word_of (run_text run) ≡ Some run }
     ensures only { (run : Word) (word : List ℕ) → IsUncut run → run_word_of word ≡ Some run → word ≡ run_text run }
@@ -36,6 +40,7 @@ pub fn runs_are_spelled()
 
 /// The longest runs of some turns stand for them, each spelling stands for its run, and no other longest runs stand
 /// for the same turns.
+#[tactic(auto, using(crate::proofs::Longest::longest_laws))]
 pub fn longest_runs_are_unique()
     ensures turns { (turns : List ℕ) → expanded (thread_runs turns) ≡ turns }
     ensures spelled { (run : ThreadRun) → run_turns (shortest run) ≡ turns_of run }

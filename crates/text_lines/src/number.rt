@@ -71,9 +71,11 @@ fn cut_value(digits: &[u8]) -> u128
     requires { IsTrue (is_numeral digits.now) }
     ensures { result ≡ min (digits_value 10 digits.now) cut }
 {
-    let mut value: u128 = 0;
-    for digit in digits {
-        value = (value * 10 + u128::from(*digit - b'0')).min(CUT);
+    let Ok(text) = str::from_utf8(digits) else {
+        return CUT;
+    };
+    match text.parse::<u64>() {
+        Ok(value) => u128::from(value),
+        Err(_) => CUT,
     }
-    value
 }

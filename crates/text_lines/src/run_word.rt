@@ -2,7 +2,7 @@
 
 ghost use Rattle.std.specs.Prelude.{◌≡◌, [], ◌∷◌, MatchOption};
 ghost use Rattle.std.specs.Option.{is_some};
-ghost use Rattle.text_lines.specs.RunWord.{run_word_of, run_words_of};
+ghost use Rattle.text_lines.specs.RunWord.{run_word_of, run_words_of, some_run_words};
 
 use crate::number::{one_number, read_number};
 use crate::part::Parts;
@@ -56,15 +56,15 @@ impl<'s> Model for RunWords<'s> {
 }
 
 impl<'s> RunWords<'s> {
-    /// The runs of these words, if each is one.
+    /// The runs of these words, if there is one, and each is a run.
+    #[tactic(auto, using(crate::proofs::Spelled::some_of))]
     pub fn read(words: Parts<'s>) -> Option<RunWords<'s>>
-        ensures { result ≡ run_words_of words.entry }
+        ensures { result ≡ some_run_words words.entry }
     {
-        if are_runs(words.again()) {
-            Some(RunWords { words })
-        } else {
-            None
+        if words.is_empty() || !are_runs(words.again()) {
+            return None;
         }
+        Some(RunWords { words })
     }
 
     /// Takes off the first run, where one is left.
