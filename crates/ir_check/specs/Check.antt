@@ -2,8 +2,8 @@
 use Rattle.std.specs.Prelude.{◌≡◌, ℕ, Bool, true, false, List, Option, Some, None, Result, Ok, Err, if◌then◌else◌}
 use Rattle.std.specs.List.{list_any}
 use Rattle.ir_types.specs.declared.«module».Module.{Module}
-use Rattle.ir_check.specs.declared.check.ModuleError.{ModuleError}
-use Rattle.ir_check.specs.declared.check.ModuleError.TheVariants as errors
+use Rattle.ir_check.specs.declared.error.ModuleError.{ModuleError}
+use Rattle.ir_check.specs.declared.error.ModuleError.TheVariants.{Unsupported, BadShape}
 use Rattle.ir_check.specs.declared.scope.Scope.{Scope}
 use Rattle.ir_read.specs.declared.line.Line.{Line}
 use Rattle.ir_check.specs.Build.{built}
@@ -11,38 +11,21 @@ use Rattle.ir_check.specs.Layout.{too_large}
 use Rattle.ir_check.specs.Names.{has_form, is_define_main}
 use Rattle.ir_check.specs.Scope.{first_bad, outside, text_of}
 
-pub data ModuleFault : Type 0 where
-  -- the line has no form that may stand there, or names what the module doesn't have, or gives a name again
-  Unsupported : ℕ → ModuleFault
-  -- the globals are too large at the line, or at 0 there is no main
-  BadShape : ℕ → ModuleFault
-
 -- the first bad line, where one is
 abbrev pub bad_line : List Line → Option ℕ
 bad_line lines = first_bad (text_of lines) lines outside 0
 
-abbrev pub unless : Option ℕ → (ℕ → ModuleFault) → Result Module ModuleFault → Result Module ModuleFault
-unless None fault others = others
-unless (Some line) fault others = Err (fault line)
+abbrev pub unless : Option ℕ → (ℕ → ModuleError) → Result Module ModuleError → Result Module ModuleError
+unless None error others = others
+unless (Some line) error others = Err (error line)
 
 -- The module that the lines spell, or their fault: a bad line first, then globals that are too large, and then
 -- want of a main.
-abbrev pub module_of : List Line → Result Module ModuleFault
+abbrev pub module_of : List Line → Result Module ModuleError
 module_of lines =
     unless (bad_line lines) Unsupported
     (unless (too_large lines 0 0) BadShape
     (if list_any (has_form is_define_main) lines then Ok (built lines) else Err (BadShape 0)))
-
--- a fault that was met, or want of memory
-abbrev pub Fails : ModuleError → Result Module ModuleFault → Type 0
-Fails (errors.Unsupported line) wanted = wanted ≡ Err (Unsupported line)
-Fails (errors.BadShape line) wanted = wanted ≡ Err (BadShape line)
-Fails errors.NoMemory wanted = Unit {0}
-
--- what the check answered is what the definition gives
-abbrev pub Gives : Result Module ModuleError → Result Module ModuleFault → Type 0
-Gives (Ok found) wanted = wanted ≡ Ok found
-Gives (Err error) wanted = Fails error wanted
 
 -- the line is good and leads to the scope, or it is bad
 abbrev pub Enters : Option Scope → Bool → Scope → Type 0

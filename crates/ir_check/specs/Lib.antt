@@ -1,5 +1,6 @@
 pub mod Build
 pub mod Check
+pub mod Error
 pub mod Layout
 pub mod Names
 pub mod Number

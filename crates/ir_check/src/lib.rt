@@ -1,6 +1,7 @@
 //! The check of a module's lines: the checked module that they spell, or their first fault.
 //!
-//! - `check`: the call that does it, and what may be wrong
+//! - `check`: the call that does it
+//! - `error`: what may be wrong, and at which line
 //! - `scope`: which line is good where it stands
 //! - `place`: where a line stands
 //! - `text`: the names that a whole text has
@@ -15,6 +16,7 @@
 
 mod build;
 mod check;
+mod error;
 mod globals;
 mod layout;
 mod local_table;
@@ -26,4 +28,5 @@ mod role;
 mod scope;
 mod text;
 
-pub use check::{ModuleError, check_module};
+pub use check::check_module;
+pub use error::ModuleError;
