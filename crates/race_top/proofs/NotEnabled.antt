@@ -13,8 +13,9 @@ use Rattle.machine_model.specs.ReplayLaws.{course_after, onward_from}
 use Rattle.machine_model.specs.Run.{Course, advanced, advanced_by, advanced_with, after_turn, first_course, onward_or_concluded, run_from, run_of}
 use Rattle.machine_model.specs.System.{System}
 use Rattle.machine_model.proofs.Replays.{Chooser, Continues, IsAt, chosen-begins, follows-next, may-choose, mode-stays, next-in, run_from-begins, slice_get-after}
-use Rattle.race_top.specs.TraceReplay.{ReplayFault, fault_at_end, fault_from, first_other, replay_fault}
-use Rattle.race_top.specs.TraceReplay.ReplayFault.{TurnNotEnabled}
+use Rattle.race_top.specs.TraceReplay.{error_at_end, error_from, first_other, replay_error}
+use Rattle.race_top.specs.declared.trace_replay.ReplayError.{ReplayError}
+use Rattle.race_top.specs.declared.trace_replay.ReplayError.TheVariants.{TurnNotEnabled}
 use Rattle.race_top.proofs.Refusals.{differs}
 
 -- two lists have a front in common, and then differ
@@ -174,17 +175,17 @@ found : (past : Bool) (value place : ℕ) → cond past (Some value) None ≡ So
 found true value place is = (refl, cc)
 found false value place is = absurd (let h : ⊥ = cc in h)
 
-other-fault : (listed : Bool) (fault other : ReplayFault) → (fault ≡ other → ⊥) → cond listed (Some fault) None ≡ Some other → ⊥
-other-fault true fault other apart is = apart cc
-other-fault false fault other apart is = let h : ⊥ = cc in h
+other-error : (listed : Bool) (error other : ReplayError) → (error ≡ other → ⊥) → cond listed (Some error) None ≡ Some other → ⊥
+other-error true error other apart is = apart cc
+other-error false error other apart is = let h : ⊥ = cc in h
 
 not-at_end : (listed : List ℕ) (taken turn : ℕ) (outcome : Outcome) →
-    fault_at_end listed taken outcome ≡ Some (TurnNotEnabled turn) → ⊥
-not-at_end listed taken turn (outcomes.Exit status) = other-fault _ _ _ (λ same. cc)
-not-at_end listed taken turn (outcomes.Trap trap thread site) = other-fault _ _ _ (λ same. cc)
-not-at_end listed taken turn outcomes.Deadlock = other-fault _ _ _ (λ same. cc)
-not-at_end listed taken turn (outcomes.Repeats later earlier) = other-fault _ _ _ (λ same. cc)
-not-at_end listed taken turn outcomes.Spent = other-fault _ _ _ (λ same. cc)
+    error_at_end listed taken outcome ≡ Some (TurnNotEnabled turn) → ⊥
+not-at_end listed taken turn (outcomes.Exit status) = other-error _ _ _ (λ same. cc)
+not-at_end listed taken turn (outcomes.Trap trap thread site) = other-error _ _ _ (λ same. cc)
+not-at_end listed taken turn outcomes.Deadlock = other-error _ _ _ (λ same. cc)
+not-at_end listed taken turn (outcomes.Repeats later earlier) = other-error _ _ _ (λ same. cc)
+not-at_end listed taken turn outcomes.Spent = other-error _ _ _ (λ same. cc)
 
 refused-at : {S : Type 0} → Chooser → (most : ℕ) (system : System S) (listed : List ℕ) (steps before thread : ℕ) →
     Parts listed (run_from most system listed (first_course system steps)).turns before →
@@ -206,7 +207,7 @@ refused-at laws most system listed steps before thread apart next among =
 refused-by : {S : Type 0} → Chooser → (most : ℕ) (system : System S) (listed : List ℕ) (steps before thread : ℕ)
     (other : Option ℕ) →
     first_other listed (run_from most system listed (first_course system steps)).turns ≡ other →
-    fault_from listed (run_from most system listed (first_course system steps)) other ≡ Some (TurnNotEnabled (before + 1)) →
+    error_from listed (run_from most system listed (first_course system steps)) other ≡ Some (TurnNotEnabled (before + 1)) →
     slice_get listed before ≡ Some thread →
     Contains (system.enabled (course_after before system listed (first_course system steps)).state) thread → ⊥
 refused-by laws most system listed steps before thread None is refused next among =
@@ -220,9 +221,9 @@ refused-by laws most system listed steps before thread (Some place) is refused n
     (subst (Parts listed turns) (at.1 ∙ omega arith) (parts listed turns (ltb-true _ _ at.0))) next among
 
 pub refused-not_enabled : {S : Type 0} → Chooser → (system : System S) (listed : List ℕ) (steps before thread : ℕ) →
-    replay_fault listed (run_of system listed steps) ≡ Some (TurnNotEnabled (before + 1)) →
+    replay_error listed (run_of system listed steps) ≡ Some (TurnNotEnabled (before + 1)) →
     slice_get listed before ≡ Some thread →
     ¬ Contains (system.enabled (course_after before system listed (first_course system steps)).state) thread
-unfolding replay_fault run_of
+unfolding replay_error run_of
 refused-not_enabled laws system listed steps before thread refused next =
     refused-by laws (steps + 1) system listed steps before thread _ refl refused next

@@ -14,8 +14,9 @@ use Rattle.machine_model.specs.Moment.{Moment, access_at, from_turn}
 use Rattle.machine_model.specs.Primary.{setting_of}
 use Rattle.machine_model.specs.Reach.{Reaches, does_second, primary_moments, reaches_from}
 use Rattle.machine_model.specs.System.{System, machine_of}
-use Rattle.race_top.specs.CheckRace.{RaceFault, RaceOf, is_range, race_at, race_with, turns_of}
-use Rattle.race_top.specs.CheckRace.RaceFault.{NoConflict, Range, SameThread}
+use Rattle.race_top.specs.CheckRace.{RaceOf, is_range, race_at, race_with, turns_of}
+use Rattle.race_top.specs.declared.trace_replay.check.RaceError.{RaceError}
+use Rattle.race_top.specs.declared.trace_replay.check.RaceError.TheVariants.{NoConflict, Range, SameThread}
 use Rattle.race_top.specs.CheckRaceLaws.{RecordedRunReaches, ThreadsDiffer}
 use Rattle.race_top.proofs.Moments.{slice_get-drop}
 
@@ -49,10 +50,10 @@ record Found {S : Type 0} (system : System S) (moments : List (Moment S)) (race 
   conflict : conflicts access again ≡ true
   is : race ≡ race_is first second (turns_of one.thread (take first moments)) one other access again
 
-ok-if : (test : Bool) (answer race : Race) (fault : RaceFault) → cond test (Ok answer) (Err fault) ≡ Ok race →
+ok-if : (test : Bool) (answer race : Race) (error : RaceError) → cond test (Ok answer) (Err error) ≡ Ok race →
     (test ≡ true) × (race ≡ answer)
-ok-if true answer race fault is = (refl, cc)
-ok-if false answer race fault is = absurd (let h : ⊥ = cc in h)
+ok-if true answer race error is = (refl, cc)
+ok-if false answer race error is = absurd (let h : ⊥ = cc in h)
 
 module _ {S : Type 0} (system : System S) (moments : List (Moment S)) (first second : ℕ) (race : Race) (low : 0 < first) (above : first < second) where
   found-with : (one other : Moment S) (access again : Option Access) → slice_get moments (first - 1) ≡ Some one →

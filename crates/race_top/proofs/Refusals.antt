@@ -11,7 +11,7 @@ use Rattle.machine_model.specs.Policy.{Choice, choose}
 use Rattle.machine_model.specs.Run.{Course, advanced, advanced_with, first_course, onward_or_concluded, run_from, run_of}
 use Rattle.machine_model.specs.System.{System}
 use Rattle.machine_model.proofs.Replays.{Begins, chosen-begins, run_from-begins}
-use Rattle.race_top.specs.TraceReplay.{fault_at_end, fault_from, first_other, is_listed, replay_fault}
+use Rattle.race_top.specs.TraceReplay.{error_at_end, error_from, first_other, is_listed, replay_error}
 
 abbrev pub differs : ℕ × ℕ → Bool
 differs pair = not (eqb pair.0 pair.1)
@@ -40,18 +40,18 @@ first_other-itself turns =
 beyond : (turns : List ℕ) → is_listed turns (length turns + 1) ≡ false
 beyond turns = grind (arith, nat_tests)
 
-fault_at_end-itself : (turns : List ℕ) (outcome : Outcome) → outcome ≢ outcomes.Spent →
-    fault_at_end turns (length turns) outcome ≡ None
-fault_at_end-itself turns (outcomes.Exit status) whole = none-past _ _ (beyond turns)
-fault_at_end-itself turns (outcomes.Trap trap thread site) whole = none-past _ _ (beyond turns)
-fault_at_end-itself turns outcomes.Deadlock whole = none-past _ _ (beyond turns)
-fault_at_end-itself turns (outcomes.Repeats turn earlier) whole = none-past _ _ (beyond turns)
-fault_at_end-itself turns outcomes.Spent whole = absurd (whole refl)
+error_at_end-itself : (turns : List ℕ) (outcome : Outcome) → outcome ≢ outcomes.Spent →
+    error_at_end turns (length turns) outcome ≡ None
+error_at_end-itself turns (outcomes.Exit status) whole = none-past _ _ (beyond turns)
+error_at_end-itself turns (outcomes.Trap trap thread site) whole = none-past _ _ (beyond turns)
+error_at_end-itself turns outcomes.Deadlock whole = none-past _ _ (beyond turns)
+error_at_end-itself turns (outcomes.Repeats turn earlier) whole = none-past _ _ (beyond turns)
+error_at_end-itself turns outcomes.Spent whole = absurd (whole refl)
 
-pub replay_fault-itself : (run : Run) → run.outcome ≢ outcomes.Spent → replay_fault run.turns run ≡ None
-unfolding replay_fault
-replay_fault-itself run whole =
-    rw (first_other-itself run.turns) (fault_at_end-itself run.turns run.outcome whole)
+pub replay_error-itself : (run : Run) → run.outcome ≢ outcomes.Spent → replay_error run.turns run ≡ None
+unfolding replay_error
+replay_error-itself run whole =
+    rw (first_other-itself run.turns) (error_at_end-itself run.turns run.outcome whole)
 
 agree-take : (listed turns : List ℕ) → length (zip listed turns) ≤ position_or_len differs (zip listed turns) →
     length listed ≤ length turns → take (length listed) turns ≡ listed
@@ -73,7 +73,7 @@ not-listed : (listed : List ℕ) (turn : ℕ) → is_listed listed turn ≡ fals
 not-listed listed turn is some = grind (arith, nat_tests)
 
 long-enough : (listed : List ℕ) (taken : ℕ) (outcome : Outcome) → (outcome ≡ outcomes.Spent → 0 < taken) →
-    fault_at_end listed taken outcome ≡ None → length listed ≤ taken
+    error_at_end listed taken outcome ≡ None → length listed ≤ taken
 long-enough listed taken (outcomes.Exit status) some none =
     let past = not-listed listed (taken + 1) (past-from_none _ _ none) (omega arith) in omega arith
 long-enough listed taken (outcomes.Trap trap thread site) some none =
@@ -85,11 +85,11 @@ long-enough listed taken (outcomes.Repeats turn earlier) some none =
 long-enough listed taken outcomes.Spent some none =
     let past = not-listed listed taken (past-from_none _ _ none) (some refl) in omega arith
 
-taken-without_fault : (listed : List ℕ) (run : Run) (other : Option ℕ) → first_other listed run.turns ≡ other →
-    (run.outcome ≡ outcomes.Spent → 0 < length run.turns) → fault_from listed run other ≡ None →
+taken-without_error : (listed : List ℕ) (run : Run) (other : Option ℕ) → first_other listed run.turns ≡ other →
+    (run.outcome ≡ outcomes.Spent → 0 < length run.turns) → error_from listed run other ≡ None →
     take (length listed) run.turns ≡ listed
-taken-without_fault listed run (Some place) is some none = absurd (let h : ⊥ = cc in h)
-taken-without_fault listed run None is some none =
+taken-without_error listed run (Some place) is some none = absurd (let h : ⊥ = cc in h)
+taken-without_error listed run None is some none =
     agree-take listed run.turns (ltb-false _ _ (past-from_none _ _ is))
     (long-enough listed (length run.turns) run.outcome some none)
 
@@ -112,11 +112,11 @@ run_from-some (suc most) system listed course some spent =
     spent-some (run_from most system listed) system course (choose listed course.policy (system.enabled course.state))
     (run_from-begins most system listed) spent
 
-pub replay_fault-none : {S : Type 0} (system : System S) (listed : List ℕ) (steps : ℕ) →
-    replay_fault listed (run_of system listed steps) ≡ None →
+pub replay_error-none : {S : Type 0} (system : System S) (listed : List ℕ) (steps : ℕ) →
+    replay_error listed (run_of system listed steps) ≡ None →
     take (length listed) (run_of system listed steps).turns ≡ listed
-unfolding replay_fault run_of
-replay_fault-none system listed steps none =
+unfolding replay_error run_of
+replay_error-none system listed steps none =
     let run = run_from (steps + 1) system listed (first_course system steps) in
-    taken-without_fault listed run (first_other listed run.turns) refl
+    taken-without_error listed run (first_other listed run.turns) refl
     (run_from-some (steps + 1) system listed (first_course system steps) (omega arith)) none

@@ -1,5 +1,6 @@
 -- What a request is due, by the words and the bytes of the files that they name.
 use Rattle.std.specs.Prelude.{◌≡◌, ℕ, List, [], length, nat_lt, Option, Some, None, Result, Ok, Err, if◌then◌else◌}
+use Rattle.rc_base.specs.Failures.{◌>>=◌}
 use Rattle.report_text.specs.Replay.{replay_text}
 use Rattle.report_text.specs.Report.{report_text}
 use Rattle.race_top.specs.declared.file.File.TheVariants as files
@@ -8,7 +9,6 @@ use Rattle.race_top.specs.declared.refusal.Refusal.TheVariants.{TooLong}
 use Rattle.race_top.specs.AnalyserPool.{reports_of}
 use Rattle.race_top.specs.Command.{Task, case_name, module_name}
 use Rattle.race_top.specs.File.{limit_of}
-use Rattle.race_top.specs.FirstRefusal.{◌>>=◌}
 use Rattle.race_top.specs.Races.{RacesOf}
 use Rattle.race_top.specs.Recorded.{RecordedOf}
 use Rattle.race_top.specs.Refusal.{refusal_line}

@@ -8,7 +8,6 @@ pub mod Due
 pub mod Evidence
 pub mod File
 pub mod Files
-pub mod FirstRefusal
 pub mod HoldTurn
 pub mod OrderEnforcer
 pub mod Past

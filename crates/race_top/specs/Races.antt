@@ -3,15 +3,17 @@ use Rattle.std.specs.Prelude.{ℕ, ◌+◌, List, [], ◌∷◌, Result, Ok}
 use Rattle.ir_types.specs.declared.«module».Module.{Module}
 use Rattle.machine_model.specs.declared.case.Case.{Case}
 use Rattle.machine_model.specs.declared.race.Race.{Race}
+use Rattle.rc_base.specs.Failures.{◌>>=◌}
 use Rattle.race_top.specs.declared.refusal.Refusal.{Refusal}
+use Rattle.race_top.specs.declared.refusal.Refusal.TheVariants as refusals
 use Rattle.race_top.specs.CheckRace.{RaceOf}
-use Rattle.race_top.specs.FirstRefusal.{◌>>=◌, race_or_refusal}
+use Rattle.race_top.specs.Refusal.{or_refusal}
 
 -- the races of some pairs of recorded turns, of which the first has this number
 unfoldable pub races_from : Module → Case → ℕ → List (ℕ × ℕ) → Result (List Race) Refusal
 races_from code case number [] = Ok []
 races_from code case number (pair ∷ pairs) = do
-  race ← race_or_refusal number (RaceOf code case pair)
+  race ← or_refusal (refusals.Race number) (RaceOf code case pair)
   races ← races_from code case (number + 1) pairs
   Ok (race ∷ races)
 

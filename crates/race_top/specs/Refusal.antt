@@ -1,42 +1,26 @@
--- The line that a refused request is answered with.
-use Rattle.std.specs.Prelude.{ℕ, List, ◌++◌, codes, decimal}
+-- The refusals, and the line that a refused request is answered with.
+use Rattle.std.specs.Prelude.{ℕ, List, [], ◌++◌, codes, decimal, Result, Ok, Err}
+use Rattle.case_text.specs.Error as case_error
+use Rattle.ir_check.specs.Error as module_error
 use Rattle.race_top.specs.declared.refusal.Refusal.{Refusal}
-use Rattle.race_top.specs.declared.refusal.Refusal.TheVariants.{TooLong, ModuleUnsupported, ModuleBadShape, CaseSyntax, CaseRange, CaseSite, CaseSlot, ReplayTurnNotEnabled, ReplayEndsEarly, ReplaySpent, RaceRange, RaceSameThread, RaceNotWatched, RaceNoConflict}
+use Rattle.race_top.specs.declared.refusal.Refusal.TheVariants.{TooLong, Module, Case, Replay, Race}
+use Rattle.race_top.specs.CheckRace as race_error
 use Rattle.race_top.specs.File.{number_of}
+use Rattle.race_top.specs.TraceReplay as replay_error
 
-abbrev pub name_of : Refusal → List ℕ
-name_of (TooLong file) = codes "TooLong"
-name_of (ModuleUnsupported line) = codes "ModuleUnsupported"
-name_of (ModuleBadShape line) = codes "ModuleBadShape"
-name_of (CaseSyntax line) = codes "CaseSyntax"
-name_of (CaseRange line) = codes "CaseRange"
-name_of (CaseSite line) = codes "CaseSite"
-name_of (CaseSlot line) = codes "CaseSlot"
-name_of (ReplayTurnNotEnabled turn) = codes "ReplayTurnNotEnabled"
-name_of (ReplayEndsEarly turn) = codes "ReplayEndsEarly"
-name_of (ReplaySpent turn) = codes "ReplaySpent"
-name_of (RaceRange race) = codes "RaceRange"
-name_of (RaceSameThread race) = codes "RaceSameThread"
-name_of (RaceNotWatched race) = codes "RaceNotWatched"
-name_of (RaceNoConflict race) = codes "RaceNoConflict"
+-- `refused NAME PLACE` and a line feed, by the two parts of the name
+abbrev pub line_of : List ℕ → List ℕ → ℕ → List ℕ
+line_of reader name place = codes "refused " ++ reader ++ name ++ codes " " ++ decimal place ++ codes "\n"
 
-abbrev pub place_of : Refusal → ℕ
-place_of (TooLong file) = number_of file
-place_of (ModuleUnsupported line) = line
-place_of (ModuleBadShape line) = line
-place_of (CaseSyntax line) = line
-place_of (CaseRange line) = line
-place_of (CaseSite line) = line
-place_of (CaseSlot line) = line
-place_of (ReplayTurnNotEnabled turn) = turn
-place_of (ReplayEndsEarly turn) = turn
-place_of (ReplaySpent turn) = turn
-place_of (RaceRange race) = race
-place_of (RaceSameThread race) = race
-place_of (RaceNotWatched race) = race
-place_of (RaceNoConflict race) = race
-
--- `refused NAME PLACE` and a line feed
+-- the place is the file's number, the line, or the number of the listed turn or of the race
 abbrev pub refusal_line : Refusal → List ℕ
-refusal_line refusal =
-    codes "refused " ++ name_of refusal ++ codes " " ++ decimal (place_of refusal) ++ codes "\n"
+refusal_line (TooLong file) = line_of (codes "TooLong") [] (number_of file)
+refusal_line (Module error) = line_of (codes "Module") (module_error.name_of error) (module_error.place_of error)
+refusal_line (Case error) = line_of (codes "Case") (case_error.name_of error) (case_error.place_of error)
+refusal_line (Replay error) = line_of (codes "Replay") (replay_error.name_of error) (replay_error.place_of error)
+refusal_line (Race race error) = line_of (codes "Race") (race_error.name_of error) race
+
+-- what a reader gives, with the refusal in place of its error
+abbrev pub or_refusal : {A E : Type 0} → (E → Refusal) → Result A E → Result A Refusal
+or_refusal refusal (Ok found) = Ok found
+or_refusal refusal (Err error) = Err (refusal error)

@@ -4,7 +4,7 @@ use Rattle.rc_base.specs.Counts.{RoseBy}
 use Rattle.rc_base.specs.Sink.{Appends}
 use Rattle.rc_base.specs.Write.{AppendsFront}
 use Rattle.race_top.specs.declared.refusal.Refusal.{Refusal}
-use Rattle.race_top.specs.declared.refusal.Refusal.TheVariants.{TooLong, ModuleUnsupported, ModuleBadShape, CaseSyntax, CaseRange, CaseSite, CaseSlot, ReplayTurnNotEnabled, ReplayEndsEarly, ReplaySpent, RaceRange, RaceSameThread, RaceNotWatched, RaceNoConflict}
+use Rattle.race_top.specs.declared.refusal.Refusal.TheVariants.{TooLong}
 use Rattle.race_top.specs.Command.{Task}
 use Rattle.race_top.specs.Due.{answer_in_files}
 use Rattle.race_top.specs.File.{limit_of}
@@ -25,19 +25,7 @@ IsSilent status = (status ≡ 2) ⊎ (status ≡ 3) ⊎ (status ≡ 6)
 -- a file is too long only where one byte past its limit was given
 abbrev pub HasPlace : Refusal → ℕ → ℕ → Type 0
 HasPlace (TooLong file) before now = RoseBy before now (limit_of file + 1)
-HasPlace (ModuleUnsupported line) before now = Unit {0}
-HasPlace (ModuleBadShape line) before now = Unit {0}
-HasPlace (CaseSyntax line) before now = Unit {0}
-HasPlace (CaseRange line) before now = Unit {0}
-HasPlace (CaseSite line) before now = Unit {0}
-HasPlace (CaseSlot line) before now = Unit {0}
-HasPlace (ReplayTurnNotEnabled turn) before now = Unit {0}
-HasPlace (ReplayEndsEarly turn) before now = Unit {0}
-HasPlace (ReplaySpent turn) before now = Unit {0}
-HasPlace (RaceRange race) before now = Unit {0}
-HasPlace (RaceSameThread race) before now = Unit {0}
-HasPlace (RaceNotWatched race) before now = Unit {0}
-HasPlace (RaceNoConflict race) before now = Unit {0}
+HasPlace refusal before now = Unit {0}
 
 -- the text is a refusal's line
 pub record IsRefusal (text : List ℕ) (given_before given_now : ℕ) : Type 0 where

@@ -1,7 +1,7 @@
 //! What the bytes of a module and a case are due: the text that a command asks for, or the first refusal.
 
 ghost use Rattle.std.specs.Prelude.{◌≤◌, vec_len};
-ghost use Rattle.race_top.specs.Answer.{Gives, StopsByBytes};
+ghost use Rattle.race_top.specs.Answer.{GivesIfRead, StopsByBytes};
 ghost use Rattle.race_top.specs.File.{limit_of};
 ghost use Rattle.race_top.specs.Due.{ReplayOf, ReportOf};
 
@@ -18,7 +18,7 @@ use std::alloc::Global;
 #[tactic(auto, unfolding(crate::specs::Due::ReplayOf))]
 pub fn replayed_text(alloc: Global, files: &Files) -> Result<Vec<u8>, Stop>
     requires { vec_len files.now.module ≤ limit_of File.Module }
-    ensures due { Gives (λ text. text.items) result (ReplayOf files.now.module.items files.now.case.items) }
+    ensures due { GivesIfRead (λ text. text.items) result (ReplayOf files.now.module.items files.now.case.items) }
     ensures cause { StopsByBytes result }
 {
     let recorded = Recorded::read(alloc, files)?;
@@ -29,7 +29,7 @@ pub fn replayed_text(alloc: Global, files: &Files) -> Result<Vec<u8>, Stop>
 #[tactic(auto, unfolding(crate::specs::Due::ReportOf))]
 pub fn classified_text(alloc: Global, files: &Files) -> Result<Vec<u8>, Stop>
     requires { vec_len files.now.module ≤ limit_of File.Module }
-    ensures due { Gives (λ text. text.items) result (ReportOf files.now.module.items files.now.case.items) }
+    ensures due { GivesIfRead (λ text. text.items) result (ReportOf files.now.module.items files.now.case.items) }
     ensures cause { StopsByBytes result }
 {
     let recorded = Recorded::read(alloc, files)?;

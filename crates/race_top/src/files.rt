@@ -49,7 +49,7 @@ fn read_file<F: Shelf>(
     match read_whole(alloc, shelf, name, file.limit()) {
         Ok(bytes) => Ok(bytes),
         Err(ReadWhole::Fault) => Err(Stop::ReadFailed),
-        Err(ReadWhole::TooLong) => Err(Stop::Refused(Refusal::TooLong { file })),
+        Err(ReadWhole::TooLong) => Err(Stop::Refused(Refusal::TooLong(file))),
         Err(ReadWhole::NoMemory) => Err(Stop::NoMemory),
     }
 }

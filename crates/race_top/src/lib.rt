@@ -35,3 +35,4 @@ pub use file::File;
 pub use refusal::Refusal;
 pub use status::{NO_MEMORY, READ_FAILED, REFUSED, USAGE, WHOLE, WRITE_FAILED};
 pub use top::run;
+pub use trace_replay::{RaceError, ReplayError};

@@ -3,7 +3,7 @@
 ghost use Rattle.std.specs.Prelude.{◌≡◌, ◌<◌, ◌^◌, All, IfOk, length, true};
 ghost use Rattle.machine_model.specs.Reach.{Reaches};
 ghost use Rattle.machine_model.specs.Runnable.{IsRunnable};
-ghost use Rattle.race_top.specs.Answer.{Gives, StopsByBytes};
+ghost use Rattle.race_top.specs.Answer.{GivesIfRead, StopsByBytes};
 ghost use Rattle.race_top.specs.Races.{RacesOf};
 
 use crate::stop::Stop;
@@ -20,7 +20,7 @@ pub fn check_races(alloc: Global, code: &Module, case: &Case) -> Result<Vec<Race
     requires runnable { IsRunnable code.now }
     requires steps { case.now.steps < 2 ^ 30 }
     requires count { length case.now.races < 2 ^ 32 }
-    ensures due { Gives (λ races. races.items) result (RacesOf code.now case.now) }
+    ensures due { GivesIfRead (λ races. races.items) result (RacesOf code.now case.now) }
     ensures reached { IfOk result (λ races. All (λ race. Reaches code.now case.now race case.now.input ≡ true) races.items) }
     ensures cause { StopsByBytes result }
 {

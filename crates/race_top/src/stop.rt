@@ -6,7 +6,7 @@ use crate::refusal::Refusal;
 use crate::trace_replay::{RaceError, ReplayError};
 use case_text::CaseError;
 use ir_check::ModuleError;
-use rc_base::NoMemory;
+use rc_base::{Failure, NoMemory};
 
 /// Why there is no text to write.
 #[derive(Clone, Copy, Debug, PartialEq, Eq)]
@@ -26,66 +26,59 @@ impl From<NoMemory> for Stop {
     }
 }
 
-impl From<ModuleError> for Stop {
-    ghost use Rattle.race_top.specs.Stop.{stop_of_module};
+impl From<Failure<ModuleError>> for Stop {
+    ghost use Rattle.race_top.specs.Stop.{stop_of};
+    ghost use Rattle.race_top.specs.declared.refusal.Refusal.TheVariants as refusals;
 
-    ghost from_gives = { λ error stop. stop ≡ stop_of_module error };
+    ghost from_gives = { λ failure stop. stop ≡ stop_of refusals.Module failure };
 
-    fn from(error: ModuleError) -> Stop {
-        match error {
-            ModuleError::Unsupported { line } => Stop::Refused(Refusal::ModuleUnsupported { line }),
-            ModuleError::BadShape { line } => Stop::Refused(Refusal::ModuleBadShape { line }),
-            ModuleError::NoMemory => Stop::NoMemory,
+    fn from(failure: Failure<ModuleError>) -> Stop {
+        match failure {
+            Failure::Refused(error) => Stop::Refused(Refusal::Module(error)),
+            Failure::NoMemory => Stop::NoMemory,
         }
     }
 }
 
-impl From<CaseError> for Stop {
-    ghost use Rattle.race_top.specs.Stop.{stop_of_case};
+impl From<Failure<CaseError>> for Stop {
+    ghost use Rattle.race_top.specs.Stop.{stop_of};
+    ghost use Rattle.race_top.specs.declared.refusal.Refusal.TheVariants as refusals;
 
-    ghost from_gives = { λ error stop. stop ≡ stop_of_case error };
+    ghost from_gives = { λ failure stop. stop ≡ stop_of refusals.Case failure };
 
-    fn from(error: CaseError) -> Stop {
-        match error {
-            CaseError::Syntax { line } => Stop::Refused(Refusal::CaseSyntax { line }),
-            CaseError::Range { line } => Stop::Refused(Refusal::CaseRange { line }),
-            CaseError::Site { line } => Stop::Refused(Refusal::CaseSite { line }),
-            CaseError::Slot { line } => Stop::Refused(Refusal::CaseSlot { line }),
-            CaseError::NoMemory => Stop::NoMemory,
+    fn from(failure: Failure<CaseError>) -> Stop {
+        match failure {
+            Failure::Refused(error) => Stop::Refused(Refusal::Case(error)),
+            Failure::NoMemory => Stop::NoMemory,
         }
     }
 }
 
-impl From<ReplayError> for Stop {
-    ghost use Rattle.race_top.specs.Stop.{stop_of_replay};
+impl From<Failure<ReplayError>> for Stop {
+    ghost use Rattle.race_top.specs.Stop.{stop_of};
+    ghost use Rattle.race_top.specs.declared.refusal.Refusal.TheVariants as refusals;
 
-    ghost from_gives = { λ error stop. stop ≡ stop_of_replay error };
+    ghost from_gives = { λ failure stop. stop ≡ stop_of refusals.Replay failure };
 
-    fn from(error: ReplayError) -> Stop {
-        match error {
-            ReplayError::TurnNotEnabled { turn } => {
-                Stop::Refused(Refusal::ReplayTurnNotEnabled { turn })
-            }
-            ReplayError::EndsEarly { turn } => Stop::Refused(Refusal::ReplayEndsEarly { turn }),
-            ReplayError::Spent { turn } => Stop::Refused(Refusal::ReplaySpent { turn }),
-            ReplayError::NoMemory => Stop::NoMemory,
+    fn from(failure: Failure<ReplayError>) -> Stop {
+        match failure {
+            Failure::Refused(error) => Stop::Refused(Refusal::Replay(error)),
+            Failure::NoMemory => Stop::NoMemory,
         }
     }
 }
 
 impl Stop {
-    ghost use Rattle.race_top.specs.Stop.{stop_of_race};
+    ghost use Rattle.race_top.specs.Stop.{stop_of};
+    ghost use Rattle.race_top.specs.declared.refusal.Refusal.TheVariants as refusals;
 
     /// Why the pair of turns of this number, counted from 1, is no race.
-    pub fn of_race(race: u32, error: RaceError) -> Stop
-        ensures { result ≡ stop_of_race race error }
+    pub fn of_race(race: u32, failure: Failure<RaceError>) -> Stop
+        ensures { result ≡ stop_of (refusals.Race race) failure }
     {
-        match error {
-            RaceError::Range => Stop::Refused(Refusal::RaceRange { race }),
-            RaceError::SameThread => Stop::Refused(Refusal::RaceSameThread { race }),
-            RaceError::NotWatched => Stop::Refused(Refusal::RaceNotWatched { race }),
-            RaceError::NoConflict => Stop::Refused(Refusal::RaceNoConflict { race }),
-            RaceError::NoMemory => Stop::NoMemory,
+        match failure {
+            Failure::Refused(error) => Stop::Refused(Refusal::Race { race, error }),
+            Failure::NoMemory => Stop::NoMemory,
         }
     }
 }

@@ -11,13 +11,14 @@ mod seen;
 ghost use Rattle.std.specs.Prelude.{◌≡◌, ◌<◌, ◌^◌, length, IfOk, IfSome};
 ghost use Rattle.machine_model.specs.Primary.{Primary};
 ghost use Rattle.machine_model.specs.Runnable.{IsRunnable};
-ghost use Rattle.race_top.specs.TraceReplay.{Tells, fault_at_end, first_other, replay_fault};
+ghost use Rattle.rc_base.specs.Failures.{Gives};
+ghost use Rattle.race_top.specs.TraceReplay.{error_at_end, first_other, name_of, place_of, replay_error, replay_of};
 
 pub use check::{RaceError, check_race};
 use concrete_machine::{Advance, Course};
 use ir_types::{Input, Module};
 use machine_model::{Case, Outcome, Run};
-use rc_base::{NoMemory, Steps};
+use rc_base::{Failure, NoMemory, Steps};
 use std::alloc::Global;
 use std::marker::Brand;
 use std::sync::ledger::{Blank, Ledger};
@@ -35,8 +36,30 @@ pub enum ReplayError {
     /// The budget ended in the listed turn.
     #[error("the budget is spent in turn {turn}")]
     Spent { turn: u32 },
-    #[error("out of memory")]
-    NoMemory,
+}
+
+impl ReplayError {
+    /// What is wrong, in a word.
+    pub fn name(self) -> &'static str
+        ensures { result.now ≡ name_of self }
+    {
+        match self {
+            ReplayError::TurnNotEnabled { .. } => "TurnNotEnabled",
+            ReplayError::EndsEarly { .. } => "EndsEarly",
+            ReplayError::Spent { .. } => "Spent",
+        }
+    }
+
+    /// The number of the turn.
+    pub fn place(self) -> u32
+        ensures { result ≡ place_of self }
+    {
+        match self {
+            ReplayError::TurnNotEnabled { turn }
+            | ReplayError::EndsEarly { turn }
+            | ReplayError::Spent { turn } => turn,
+        }
+    }
 }
 
 /// The run of this input that follows the recorded turns, its steps counted.
@@ -85,45 +108,47 @@ fn first_other(listed: &[u8], turns: &[u8]) -> Option<usize>
         .position(|(thread, taken)| thread != taken)
 }
 
-/// Whether a run of so many turns, all of them as listed, took all of the list.
-fn check_end(listed: &[u8], taken: usize, outcome: Outcome) -> Result<(), ReplayError>
+/// Which listed turn a run of so many turns, all of them as listed, does not take.
+fn error_at_end(listed: &[u8], taken: usize, outcome: Outcome) -> Option<ReplayError>
     requires { length listed.now < 2 ^ 32 }
-    ensures { Tells result (fault_at_end listed.now taken outcome) }
+    ensures { result ≡ error_at_end listed.now taken outcome }
 {
     match outcome {
         Outcome::Spent if 0 < taken && taken <= listed.len() => {
-            Err(ReplayError::Spent { turn: taken as u32 })
+            Some(ReplayError::Spent { turn: taken as u32 })
         }
-        Outcome::Spent => Ok(()),
-        _ if taken < listed.len() => Err(ReplayError::EndsEarly {
+        Outcome::Spent => None,
+        _ if taken < listed.len() => Some(ReplayError::EndsEarly {
             turn: taken as u32 + 1,
         }),
-        _ => Ok(()),
+        _ => None,
     }
 }
 
-/// Whether the run that follows the listed turns takes them all.
-#[tactic(auto, unfolding(crate::specs::TraceReplay::replay_fault))]
-fn check_turns(listed: &[u8], run: &Run) -> Result<(), ReplayError>
+/// Which listed turn the run that follows the list does not take.
+#[tactic(auto, unfolding(crate::specs::TraceReplay::replay_error))]
+fn replay_error(listed: &[u8], run: &Run) -> Option<ReplayError>
     requires { length listed.now < 2 ^ 32 }
-    ensures { Tells result (replay_fault listed.now run.now) }
+    ensures { result ≡ replay_error listed.now run.now }
 {
     match first_other(listed, &run.turns.items) {
-        Some(place) => Err(ReplayError::TurnNotEnabled {
+        Some(place) => Some(ReplayError::TurnNotEnabled {
             turn: place as u32 + 1,
         }),
-        None => check_end(listed, run.turns.len(), run.outcome),
+        None => error_at_end(listed, run.turns.len(), run.outcome),
     }
 }
 
 /// Replays the recorded run.
-pub fn replay(alloc: Global, code: &Module, case: &Case) -> Result<Run, ReplayError>
+#[tactic(auto, unfolding(crate::specs::TraceReplay::replay_of))]
+pub fn replay(alloc: Global, code: &Module, case: &Case) -> Result<Run, Failure<ReplayError>>
     requires runnable { IsRunnable code.now }
     requires listed { length case.now.turns < 2 ^ 32 }
-    ensures run { IfOk result (λ run. run ≡ Primary code.now case.now case.now.input) }
-    ensures fault { Tells result (replay_fault case.now.turns (Primary code.now case.now case.now.input)) }
+    ensures { Gives (λ run. run) result (replay_of code.now case.now) }
 {
-    let run = primary(alloc, code, case, &case.input).map_err(|_| ReplayError::NoMemory)?;
-    check_turns(&case.turns.items, &run)?;
-    Ok(run)
+    let run = primary(alloc, code, case, &case.input)?;
+    match replay_error(&case.turns.items, &run) {
+        Some(error) => Err(Failure::Refused(error)),
+        None => Ok(run),
+    }
 }

@@ -6,13 +6,14 @@ ghost use Rattle.machine_model.specs.Runnable.{IsRunnable};
 ghost use Rattle.machine_model.specs.Setting.{Setting};
 ghost use Rattle.machine_model.specs.System.{machine_of};
 ghost use Rattle.machine_model.specs.declared.state.State.{State};
-ghost use Rattle.race_top.specs.CheckRace.{RaceOf, TellsRace, race_at};
+ghost use Rattle.race_top.specs.CheckRace.{RaceOf, name_of, race_at};
+ghost use Rattle.rc_base.specs.Failures.{Gives};
 ghost use Rattle.race_top.specs.Seen.{SeesPair};
 
 use crate::trace_replay::seen::{Pair, see_pair};
 use ir_types::Module;
 use machine_model::{Case, Race};
-use rc_base::NoMemory;
+use rc_base::Failure;
 use std::alloc::Global;
 use std::marker::Brand;
 use std::sync::ledger::Blank;
@@ -32,25 +33,37 @@ pub enum RaceError {
     /// The accesses have no byte in common, or both are loads.
     #[error("the accesses do not conflict")]
     NoConflict,
-    #[error("out of memory")]
-    NoMemory,
+}
+
+impl RaceError {
+    /// What is wrong, in a word.
+    pub fn name(self) -> &'static str
+        ensures { result.now ≡ name_of self }
+    {
+        match self {
+            RaceError::Range => "Range",
+            RaceError::SameThread => "SameThread",
+            RaceError::NotWatched => "NotWatched",
+            RaceError::NoConflict => "NoConflict",
+        }
+    }
 }
 
 /// The race of two turns of these numbers, the second after the first.
-fn race_of(first: u32, second: u32, pair: &Pair) -> Result<Race, RaceError>
+fn race_of(first: u32, second: u32, pair: &Pair) -> Result<Race, Failure<RaceError>>
     ensures { (setting : Setting) (moments : List (Moment State)) →
         SeesPair (machine_of setting) moments first second (Some pair.now) →
-        TellsRace result (race_at (machine_of setting) moments first second
+        Gives (λ race. race) result (race_at (machine_of setting) moments first second
         (slice_get moments (first - 1)) (slice_get moments (second - 1))) }
 {
     if pair.one.thread == pair.other.thread {
-        return Err(RaceError::SameThread);
+        return Err(Failure::Refused(RaceError::SameThread));
     }
     let (Some(access), Some(again)) = (pair.one.access, pair.other.access) else {
-        return Err(RaceError::NotWatched);
+        return Err(Failure::Refused(RaceError::NotWatched));
     };
     if !access.conflicts(&again) {
-        return Err(RaceError::NoConflict);
+        return Err(Failure::Refused(RaceError::NoConflict));
     }
     Ok(Race {
         first,
@@ -71,25 +84,29 @@ fn check_pair(
     case: &Case,
     first: u32,
     second: u32,
-) -> Result<Race, RaceError>
+) -> Result<Race, Failure<RaceError>>
     requires { IsRunnable code.now }
-    ensures { TellsRace result (RaceOf code.now case.now (first, second)) }
+    ensures { Gives (λ race. race) result (RaceOf code.now case.now (first, second)) }
 {
     if first == 0 || second <= first || case.turns.len() < second as usize {
-        return Err(RaceError::Range);
+        return Err(Failure::Refused(RaceError::Range));
     }
-    match see_pair::<Brand>(alloc, code, case, first, second, Blank::new(1)) {
-        Ok(Some(pair)) => race_of(first, second, &pair),
-        Ok(None) => Err(RaceError::NotWatched),
-        Err(NoMemory) => Err(RaceError::NoMemory),
+    match see_pair::<Brand>(alloc, code, case, first, second, Blank::new(1))? {
+        Some(pair) => race_of(first, second, &pair),
+        None => Err(Failure::Refused(RaceError::NotWatched)),
     }
 }
 
 /// The race of the pair of recorded turns with this index.
-pub fn check_race(alloc: Global, code: &Module, case: &Case, index: u32) -> Result<Race, RaceError>
+pub fn check_race(
+    alloc: Global,
+    code: &Module,
+    case: &Case,
+    index: u32,
+) -> Result<Race, Failure<RaceError>>
     requires runnable { IsRunnable code.now }
     requires index { index < length case.now.races }
-    ensures { TellsRace result (RaceOf code.now case.now (slice_index_or case.now.races index (0, 0))) }
+    ensures { Gives (λ race. race) result (RaceOf code.now case.now (slice_index_or case.now.races index (0, 0))) }
 {
     let (first, second) = case.races.as_slice()[index as usize];
     check_pair(alloc, code, case, first, second)

@@ -1,6 +1,6 @@
 use Rattle.std.proofs.Common.{◌≡◌, ◌+◌, ◌++◌, All, Ok, drop, true}
 use Rattle.machine_model.specs.Reach.{Reaches}
-use Rattle.race_top.specs.FirstRefusal.{◌>>=◌}
+use Rattle.rc_base.specs.Failures.{◌>>=◌}
 use Rattle.race_top.specs.Races.{RacesOf, races_from}
 use Rattle.race_top.proofs.races.check_races.Given as goal
 
