@@ -6,8 +6,8 @@ pub mod NotEnabled
 pub mod Pasts
 pub mod Points
 pub mod RaceReached
+pub mod Reading
 pub mod Refusals
 pub mod SeenPairs
 pub mod SpentEvidence
 pub mod Tested
-pub mod Unread

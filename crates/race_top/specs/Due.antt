@@ -18,6 +18,11 @@ pub record Answer : Type 0 where
   pub status : ℕ
   pub text : List ℕ
 
+-- the shelf tells the bytes of the module's file
+abbrev pub TellsModule : (List ℕ → Option (List ℕ)) → Option Task → List ℕ → Type 0
+TellsModule holds None code = ⊥
+TellsModule holds (Some task) code = holds (module_name task) ≡ Some code
+
 -- the shelf tells the bytes of the files that the task names
 abbrev pub Tells : (List ℕ → Option (List ℕ)) → Option Task → List ℕ → List ℕ → Type 0
 Tells holds None code case = ⊥

@@ -1,10 +1,10 @@
 //! Reading the files that a command names, whole and in order.
 
-ghost use Rattle.std.specs.Prelude.{◌≡◌, ℕ, List, ◌≤◌, IfOk, IfSome, vec_len};
-ghost use Rattle.race_top.specs.Due.{Tells};
+ghost use Rattle.std.specs.Prelude.{◌≡◌, ℕ, ◌+◌, List, ◌≤◌, IfOk, IfSome, vec_len};
+ghost use Rattle.race_top.specs.Due.{Tells, TellsModule};
 ghost use Rattle.race_top.specs.Command.{task_of};
 ghost use Rattle.race_top.specs.File.{limit_of};
-ghost use Rattle.race_top.specs.Files.{AreWithin, GivesFile, GivesFiles, HasCauses};
+ghost use Rattle.race_top.specs.Files.{AreWithin, EndsAtModule, GivesFile, GivesFiles, HasCauses, StopsAt, StopsByLength};
 
 use crate::command::Command;
 use crate::file::File;
@@ -22,9 +22,12 @@ pub struct Files {
 
 impl Files {
     /// Reads the module's file whole, and then the case's.
+    #[tactic(auto, using(crate::proofs::Reading::case_causes))]
     pub fn read<F: Shelf>(alloc: Global, shelf: &mut F, command: Command<'_>) -> Result<Files, Stop>
         ensures whole { (code case : List ℕ) → Tells (F.holds shelf.old) (Some (task_of command.entry)) code case → GivesFiles result code case }
+        ensures order { (code : List ℕ) → TellsModule (F.holds shelf.old) (Some (task_of command.entry)) code → EndsAtModule code (F.given shelf.old) (F.given shelf.new) }
         ensures within { IfOk result AreWithin }
+        ensures refusal { StopsByLength result }
         ensures cause { HasCauses result (F.faults shelf.old) (F.faults shelf.new) (F.given shelf.old) (F.given shelf.new) }
         ensures told { (other : List ℕ) → F.holds shelf.new other ≡ F.holds shelf.old other }
     {
@@ -43,6 +46,8 @@ fn read_file<F: Shelf>(
 ) -> Result<Vec<u8>, Stop>
     ensures whole { IfSome (F.holds shelf.old name.now) (λ bytes. GivesFile result file bytes) }
     ensures within { IfOk result (λ bytes. vec_len bytes ≤ limit_of file) }
+    ensures refusal { StopsAt file result }
+    ensures most { F.given shelf.new ≤ F.given shelf.old + limit_of file + 1 }
     ensures cause { HasCauses result (F.faults shelf.old) (F.faults shelf.new) (F.given shelf.old) (F.given shelf.new) }
     ensures told { (other : List ℕ) → F.holds shelf.new other ≡ F.holds shelf.old other }
 {

@@ -1,15 +1,15 @@
 //! The whole program: words in, a status and a text out.
 
-ghost use Rattle.std.specs.Prelude.{◌≡◌, ℕ, ◌<◌, ◌≤◌, ◌⊎◌, ◌↔◌, List, Some, IfOk, IsNone};
+ghost use Rattle.std.specs.Prelude.{◌≡◌, ℕ, ◌<◌, ◌≤◌, ◌⊎◌, ◌↔◌, List, Some, IsNone};
 ghost use Rattle.rc_base.specs.Counts.{count_end, Rose};
 ghost use Rattle.rc_base.specs.Sink.{Appends, Keeps};
 ghost use Rattle.rc_base.specs.Write.{AppendsFront};
 ghost use Rattle.race_top.specs.Answer.{GivesIfRead};
 ghost use Rattle.race_top.specs.Command.{command_of, task_of};
-ghost use Rattle.race_top.specs.Due.{Tells, answer_in_files, due};
-ghost use Rattle.race_top.specs.Files.{HasCauses};
+ghost use Rattle.race_top.specs.Due.{Tells, TellsModule, answer_in_files, due};
+ghost use Rattle.race_top.specs.Files.{EndsAtModule, HasCauses};
 ghost use Rattle.race_top.specs.Refusal.{refusal_line};
-ghost use Rattle.race_top.specs.Status.{IsAnswer, IsSilent, IsStatus, IsWhole, WritesAnswer, WritesFront, WritesRefusal};
+ghost use Rattle.race_top.specs.Status.{CanAnswer, IsSilent, IsStatus, IsWhole, WritesAnswer, WritesFront, WritesRefusal};
 
 use crate::answer::{classified_text, replayed_text};
 use crate::command::Command;
@@ -41,7 +41,7 @@ pub fn run<R: Threads + Sync, F: Shelf, O: Sink, P: Sink, G: Gate + Sync>(
     // The cause of each status, also where no bytes are told.
     ensures answer { result ≡ WHOLE → WritesAnswer (command_of words.now) (O.wrote out.old) (O.wrote out.new) }
     ensures read { result ≡ READ_FAILED → Rose (F.faults shelf.old) (F.faults shelf.new) }
-    ensures refusal { result ≡ REFUSED → WritesRefusal (O.wrote out.old) (O.wrote out.new) (F.given shelf.old) (F.given shelf.new) }
+    ensures refusal { result ≡ REFUSED → WritesRefusal (command_of words.now) (O.wrote out.old) (O.wrote out.new) (F.given shelf.old) (F.given shelf.new) }
     ensures write { result ≡ WRITE_FAILED → Rose (O.faults out.old) (O.faults out.new) }
     ensures front { result ≡ WRITE_FAILED → WritesFront (command_of words.now) (O.wrote out.old) (O.wrote out.new) (F.given shelf.old) (F.given shelf.new) }
     ensures silent { IsSilent result → Keeps (O.wrote out.old) (O.wrote out.new) }
@@ -57,6 +57,9 @@ pub fn run<R: Threads + Sync, F: Shelf, O: Sink, P: Sink, G: Gate + Sync>(
         F.faults shelf.new ≡ F.faults shelf.old → F.faults shelf.old < count_end →
         O.faults out.new ≡ O.faults out.old → O.faults out.old < count_end →
         (result ≡ (due (command_of words.now) code case).status) ⊎ (result ≡ NO_MEMORY) }
+
+    // The module's file is read first, and one that is too long ends the reading.
+    ensures order { (code : List ℕ) → TellsModule (F.holds shelf.old) (command_of words.now) code → EndsAtModule code (F.given shelf.old) (F.given shelf.new) }
 
     // Nothing that the shelf tells changes, and no count falls.
     ensures told { (name : List ℕ) → F.holds shelf.new name ≡ F.holds shelf.old name }
@@ -74,11 +77,12 @@ pub fn run<R: Threads + Sync, F: Shelf, O: Sink, P: Sink, G: Gate + Sync>(
 }
 
 /// Reads the files of a command and makes its text.
-#[tactic(auto, using(crate::proofs::Unread::refused_first))]
+#[tactic(auto, using(crate::proofs::Reading::refused_first, crate::proofs::Reading::can_refuse))]
 fn prepare<F: Shelf>(alloc: Global, shelf: &mut F, command: Command<'_>) -> Result<Vec<u8>, Stop>
     ensures due { (code case : List ℕ) → Tells (F.holds shelf.old) (Some (task_of command.entry)) code case →
         GivesIfRead (λ text. text.items) result (answer_in_files (task_of command.entry) code case) }
-    ensures answer { IfOk result (λ text. IsAnswer (Some (task_of command.entry)) text.items) }
+    ensures answer { CanAnswer (Some (task_of command.entry)) result }
+    ensures order { (code : List ℕ) → TellsModule (F.holds shelf.old) (Some (task_of command.entry)) code → EndsAtModule code (F.given shelf.old) (F.given shelf.new) }
     ensures cause { HasCauses result (F.faults shelf.old) (F.faults shelf.new) (F.given shelf.old) (F.given shelf.new) }
     ensures told { (other : List ℕ) → F.holds shelf.new other ≡ F.holds shelf.old other }
 {
