@@ -1,5 +1,5 @@
 -- What a request is due, by the words and the bytes of the files that they name.
-use Rattle.std.specs.Prelude.{◌≡◌, ℕ, List, [], length, nat_lt, Option, Some, None, Result, Ok, Err, if◌then◌else◌}
+use Rattle.std.specs.Prelude.{◌≡◌, ℕ, ◌<◌, List, [], length, nat_lt, Option, Some, None, Result, Ok, Err, if◌then◌else◌}
 use Rattle.rc_base.specs.Failures.{◌>>=◌}
 use Rattle.report_text.specs.Replay.{replay_text}
 use Rattle.report_text.specs.Report.{report_text}
@@ -18,10 +18,10 @@ pub record Answer : Type 0 where
   pub status : ℕ
   pub text : List ℕ
 
--- the shelf tells the bytes of the module's file
-abbrev pub TellsModule : (List ℕ → Option (List ℕ)) → Option Task → List ℕ → Type 0
-TellsModule holds None code = ⊥
-TellsModule holds (Some task) code = holds (module_name task) ≡ Some code
+-- the shelf tells the bytes of the module's file, and they are too many
+abbrev pub TellsLongModule : (List ℕ → Option (List ℕ)) → Option Task → List ℕ → Type 0
+TellsLongModule holds None code = ⊥
+TellsLongModule holds (Some task) code = (holds (module_name task) ≡ Some code) × (limit_of files.Module < length code)
 
 -- the shelf tells the bytes of the files that the task names
 abbrev pub Tells : (List ℕ → Option (List ℕ)) → Option Task → List ℕ → List ℕ → Type 0

@@ -1,5 +1,5 @@
 -- What reading the files answers, and what the counts of the shelf say of it.
-use Rattle.std.specs.Prelude.{◌≡◌, ℕ, ◌+◌, ◌<◌, ◌≤◌, List, length, Some, None, Result, Ok, Err, Vec, vec_len}
+use Rattle.std.specs.Prelude.{◌≡◌, ℕ, ◌+◌, ◌<◌, ◌≤◌, List, length, Some, None, Result, Ok, Err, Vec, is_err, true, vec_len}
 use Rattle.std.specs.declared.alloc.Global.{Global}
 use Rattle.rc_base.specs.Counts.{Rose}
 use Rattle.race_top.specs.declared.file.File.{File}
@@ -51,11 +51,11 @@ pub record HasCauses {A : Type 0} (result : Result A Stop) (faults_before faults
   pub given : given_before ≤ given_now
   pub cause : Causes result faults_before faults_now given_before given_now
 
--- where a module of these bytes is too long, no more was given than one byte past its limit: nothing but the module was
--- read
-abbrev pub EndsAtModule : List ℕ → ℕ → ℕ → Type 0
-EndsAtModule code given_before given_now =
-    limit_of kinds.Module < length code → given_now ≤ given_before + most_given kinds.Module
+-- a module that is too long is refused, and nothing but it was read: no more was given than one byte past its limit
+pub record EndsAtModule {A : Type 0} (result : Result A Stop) (given_before given_now : ℕ) : Type 0 where
+  pub fails : is_err result ≡ true
+  pub refused : StopsAt kinds.Module result
+  pub given : given_now ≤ given_before + most_given kinds.Module
 
 -- the files are within their limits
 pub record AreWithin (found : Files) : Type 0 where

@@ -4,6 +4,7 @@ use Rattle.std.specs.declared.alloc.Global.{Global}
 use Rattle.rc_base.specs.Counts.{RoseBy}
 use Rattle.rc_base.specs.Sink.{Appends}
 use Rattle.rc_base.specs.Write.{AppendsFront}
+use Rattle.race_top.specs.declared.file.File.TheVariants as files
 use Rattle.race_top.specs.declared.refusal.Refusal.{Refusal}
 use Rattle.race_top.specs.declared.refusal.Refusal.TheVariants.{TooLong}
 use Rattle.race_top.specs.declared.stop.Stop.{Stop}
@@ -63,6 +64,11 @@ pub record WritesAnswer (asked : Option Task) (before now : Option (List ℕ)) :
   pub text : List ℕ
   pub answer : IsAnswer asked (Ok text)
   pub written : Appends before now text
+
+-- what is written whole is the line of a module that is too long, and nothing but the module was read
+pub record RefusesModule (status : ℕ) (before now : Option (List ℕ)) (given_before given_now : ℕ) : Type 0 where
+  pub written : IsWhole status → (status ≡ 4) × Appends before now (refusal_line (TooLong files.Module))
+  pub given : given_now ≤ given_before + most_given files.Module
 
 -- a front of either was written
 pub record WritesFront (asked : Option Task) (before now : Option (List ℕ)) (given_before given_now : ℕ) : Type 0 where

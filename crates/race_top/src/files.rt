@@ -1,7 +1,7 @@
 //! Reading the files that a command names, whole and in order.
 
 ghost use Rattle.std.specs.Prelude.{◌≡◌, ℕ, ◌+◌, List, ◌≤◌, IfOk, IfSome, vec_len};
-ghost use Rattle.race_top.specs.Due.{Tells, TellsModule};
+ghost use Rattle.race_top.specs.Due.{Tells, TellsLongModule};
 ghost use Rattle.race_top.specs.Command.{task_of};
 ghost use Rattle.race_top.specs.File.{limit_of};
 ghost use Rattle.race_top.specs.Files.{AreWithin, EndsAtModule, GivesFile, GivesFiles, HasCauses, StopsAt, StopsByLength};
@@ -25,7 +25,7 @@ impl Files {
     #[tactic(auto, using(crate::proofs::Reading::case_causes))]
     pub fn read<F: Shelf>(alloc: Global, shelf: &mut F, command: Command<'_>) -> Result<Files, Stop>
         ensures whole { (code case : List ℕ) → Tells (F.holds shelf.old) (Some (task_of command.entry)) code case → GivesFiles result code case }
-        ensures order { (code : List ℕ) → TellsModule (F.holds shelf.old) (Some (task_of command.entry)) code → EndsAtModule code (F.given shelf.old) (F.given shelf.new) }
+        ensures order { (code : List ℕ) → TellsLongModule (F.holds shelf.old) (Some (task_of command.entry)) code → EndsAtModule result (F.given shelf.old) (F.given shelf.new) }
         ensures within { IfOk result AreWithin }
         ensures refusal { StopsByLength result }
         ensures cause { HasCauses result (F.faults shelf.old) (F.faults shelf.new) (F.given shelf.old) (F.given shelf.new) }

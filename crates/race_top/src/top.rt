@@ -6,10 +6,10 @@ ghost use Rattle.rc_base.specs.Sink.{Appends, Keeps};
 ghost use Rattle.rc_base.specs.Write.{AppendsFront};
 ghost use Rattle.race_top.specs.Answer.{GivesIfRead};
 ghost use Rattle.race_top.specs.Command.{command_of, task_of};
-ghost use Rattle.race_top.specs.Due.{Tells, TellsModule, answer_in_files, due};
+ghost use Rattle.race_top.specs.Due.{Tells, TellsLongModule, answer_in_files, due};
 ghost use Rattle.race_top.specs.Files.{EndsAtModule, HasCauses};
 ghost use Rattle.race_top.specs.Refusal.{refusal_line};
-ghost use Rattle.race_top.specs.Status.{CanAnswer, IsSilent, IsStatus, IsWhole, WritesAnswer, WritesFront, WritesRefusal};
+ghost use Rattle.race_top.specs.Status.{CanAnswer, IsSilent, IsStatus, IsWhole, RefusesModule, WritesAnswer, WritesFront, WritesRefusal};
 
 use crate::answer::{classified_text, replayed_text};
 use crate::command::Command;
@@ -58,8 +58,9 @@ pub fn run<R: Threads + Sync, F: Shelf, O: Sink, P: Sink, G: Gate + Sync>(
         O.faults out.new ≡ O.faults out.old → O.faults out.old < count_end →
         (result ≡ (due (command_of words.now) code case).status) ⊎ (result ≡ NO_MEMORY) }
 
-    // The module's file is read first, and one that is too long ends the reading.
-    ensures order { (code : List ℕ) → TellsModule (F.holds shelf.old) (command_of words.now) code → EndsAtModule code (F.given shelf.old) (F.given shelf.new) }
+    // The module's file is read first, and ends the reading where it is too long, whatever the case's file holds.
+    ensures order { (code : List ℕ) → TellsLongModule (F.holds shelf.old) (command_of words.now) code →
+        RefusesModule result (O.wrote out.old) (O.wrote out.new) (F.given shelf.old) (F.given shelf.new) }
 
     // Nothing that the shelf tells changes, and no count falls.
     ensures told { (name : List ℕ) → F.holds shelf.new name ≡ F.holds shelf.old name }
@@ -82,7 +83,7 @@ fn prepare<F: Shelf>(alloc: Global, shelf: &mut F, command: Command<'_>) -> Resu
     ensures due { (code case : List ℕ) → Tells (F.holds shelf.old) (Some (task_of command.entry)) code case →
         GivesIfRead (λ text. text.items) result (answer_in_files (task_of command.entry) code case) }
     ensures answer { CanAnswer (Some (task_of command.entry)) result }
-    ensures order { (code : List ℕ) → TellsModule (F.holds shelf.old) (Some (task_of command.entry)) code → EndsAtModule code (F.given shelf.old) (F.given shelf.new) }
+    ensures order { (code : List ℕ) → TellsLongModule (F.holds shelf.old) (Some (task_of command.entry)) code → EndsAtModule result (F.given shelf.old) (F.given shelf.new) }
     ensures cause { HasCauses result (F.faults shelf.old) (F.faults shelf.new) (F.given shelf.old) (F.given shelf.new) }
     ensures told { (other : List ℕ) → F.holds shelf.new other ≡ F.holds shelf.old other }
 {
