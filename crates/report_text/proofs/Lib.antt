@@ -1,4 +1,3 @@
 pub mod Blocks
-pub mod Digits
 pub mod Lines
 pub mod Words

@@ -1,6 +1,6 @@
 //! Numbers in decimal and in lower-case hexadecimal.
 
-ghost use Rattle.std.specs.Prelude.{◌≡◌, ◌<◌, [], ◌∷◌, ◌++◌, decimal, false, OnOk};
+ghost use Rattle.std.specs.Prelude.{◌≡◌, ◌<◌, ◌++◌, decimal, false, OnOk};
 ghost use Rattle.std.specs.Fmt.{digit_glyph, signed_decimal};
 ghost use Rattle.report_text.specs.Items.{byte_digits, hexadecimal};
 
@@ -29,22 +29,11 @@ pub fn push_byte_digits(text: &mut Vec<u8>, byte: u8) -> Result<(), AllocError>
 }
 
 /// Appends a number in hexadecimal, without leading zeros.
-#[tactic(auto, using(crate::proofs::Digits::hexadecimal_steps))]
 pub fn push_hexadecimal(text: &mut Vec<u8>, number: u64) -> Result<(), AllocError>
     ensures { OnOk result (text.new.items ≡ text.old.items ++ hexadecimal number) }
 {
-    if number < 16 {
-        return push_digit(text, number as u8);
-    }
-    push_hexadecimal(text, number / 16)?;
-    push_digit(text, (number % 16) as u8)
-}
-
-fn push_digit(text: &mut Vec<u8>, digit: u8) -> Result<(), AllocError>
-    requires { digit < 16 }
-    ensures { OnOk result (text.new.items ≡ text.old.items ++ digit_glyph false digit ∷ []) }
-{
-    text.extend_from_slice(&[hexadecimal_digit(digit)])
+    let digits = format!(in *text.allocator(); "{number:x}")?;
+    text.extend_from_slice(digits.as_bytes())
 }
 
 fn hexadecimal_digit(digit: u8) -> u8
