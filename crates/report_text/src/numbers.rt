@@ -1,7 +1,7 @@
 //! Numbers in decimal and in lower-case hexadecimal.
 
-ghost use Rattle.std.specs.Prelude.{◌≡◌, ◌<◌, ◌++◌, decimal, false, OnOk};
-ghost use Rattle.std.specs.Fmt.{digit_glyph, signed_decimal};
+ghost use Rattle.std.specs.Prelude.{◌≡◌, ◌++◌, decimal, OnOk};
+ghost use Rattle.std.specs.Fmt.{signed_decimal};
 ghost use Rattle.report_text.specs.Items.{byte_digits, hexadecimal};
 
 use itoa::Buffer;
@@ -22,10 +22,12 @@ pub fn push_signed_decimal(text: &mut Vec<u8>, number: i64) -> Result<(), AllocE
 }
 
 /// Appends a byte as two hexadecimal digits.
+#[tactic(auto, using(std::proofs::lemmas::Fmt::hex_byte))]
 pub fn push_byte_digits(text: &mut Vec<u8>, byte: u8) -> Result<(), AllocError>
     ensures { OnOk result (text.new.items ≡ text.old.items ++ byte_digits byte) }
 {
-    text.extend_from_slice(&[hexadecimal_digit(byte / 16), hexadecimal_digit(byte % 16)])
+    let digits = format!(in *text.allocator(); "{byte:02x}")?;
+    text.extend_from_slice(digits.as_bytes())
 }
 
 /// Appends a number in hexadecimal, without leading zeros.
@@ -34,15 +36,4 @@ pub fn push_hexadecimal(text: &mut Vec<u8>, number: u64) -> Result<(), AllocErro
 {
     let digits = format!(in *text.allocator(); "{number:x}")?;
     text.extend_from_slice(digits.as_bytes())
-}
-
-fn hexadecimal_digit(digit: u8) -> u8
-    requires { digit < 16 }
-    ensures { result ≡ digit_glyph false digit }
-{
-    if digit < 10 {
-        b'0' + digit
-    } else {
-        b'a' + (digit - 10)
-    }
 }
