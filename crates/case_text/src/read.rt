@@ -32,6 +32,7 @@ pub fn read_case(alloc: Global, text: &[u8], code: &Module) -> Result<Case, Fail
             return Err(Failure::Refused(CaseError::Syntax { line: number }));
         }
         progress.take(code, number, line)?;
+        // No case has so many lines: its lists would have passed their limits long before.
         number = number.checked_add(1).ok_or(Failure::NoMemory)?;
     }
     Err(Failure::Refused(CaseError::Syntax { line: number }))
