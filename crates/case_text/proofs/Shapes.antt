@@ -1,10 +1,10 @@
 -- A text has the shape of a line where it is the line's own spelling, and nowhere else.
-use Rattle.std.proofs.Common.{◌≡◌, ℕ, ◌<◌, Bool, true, false, cond, eqb, eqb-true, List, [], ◌∷◌, Some, None, refl, ap, ◌∙◌, sym, subst, arith, slice_get}
+use Rattle.std.proofs.Common.{◌≡◌, ℕ, ◌<◌, true, false, eqb, eqb-true, List, [], ◌∷◌, Option, Some, None, refl, ap, ◌∙◌, sym, subst, arith, slice_get}
 use Rattle.std.specs.Prelude.{codes, decimal, option_and_then, option_map}
 use Rattle.std.specs.Char.{is_ascii_digit}
 use Rattle.std.specs.List.{AllByRecursion, find, list_all}
 use Rattle.std.specs.Str.{bytes_eq}
-use Rattle.std.proofs.lemmas.Bool.{and_parts}
+use Rattle.std.proofs.lemmas.Bool.{and_parts, cond_both}
 use Rattle.std.proofs.lemmas.Fmt.{decimal_digit}
 use Rattle.std.proofs.lemmas.Option.{cond_some, option_and_then_some, same_Some}
 use Rattle.std.proofs.lemmas.Slice.Eq.{bytes_eq-Decides}
@@ -27,21 +27,19 @@ use Rattle.text_lines.proofs.Spelled.{one_is, option_map_is, runs_again, runs_la
 abbrev Reads : Keyword → List (List ℕ) → Line → Type 0
 Reads keyword words line = AreUncut line → (keyword ≡ keyword_in line) × (words ≡ operands_of line) × IsForm line
 
-watch_by : (plain : Bool) (name : List ℕ) (words : List (List ℕ)) (found : Watched) → found.inst < cut → is_plain name ≡ plain →
-    cond plain (option_map (watched name) (one_number words)) None ≡ Some found →
-    (name ∷ words ≡ found.name ∷ decimal found.inst ∷ []) × (is_plain found.name ≡ true)
-watch_by true name words found small plain is =
-    let read = option_map_is (watched name) (one_number words) found is in (
-      ap (λ ws. name ∷ ws) (one_is found.inst words small (read.1 ∙ ap (λ (w : Watched). Some w.inst) read.2))
-          ∙ ap (λ (w : Watched). w.name ∷ decimal found.inst ∷ []) read.2,
-      ap (λ (w : Watched). is_plain w.name) (sym read.2) ∙ plain,
-    )
-watch_by false name words found small plain is = cc
-
 watch_is : (words : List (List ℕ)) (found : Watched) → found.inst < cut → watch_words words ≡ Some found →
     (words ≡ found.name ∷ decimal found.inst ∷ []) × (is_plain found.name ≡ true)
 watch_is [] found small is = cc
-watch_is (name ∷ words) found small is = watch_by (is_plain name) name words found small refl is
+watch_is (name ∷ words) found small is =
+    cond_both (is_plain name) (option_map (watched name) (one_number words)) None
+    (λ (o : Option Watched). o ≡ Some found → (name ∷ words ≡ found.name ∷ decimal found.inst ∷ []) × (is_plain found.name ≡ true))
+    (λ plain read_is.
+    let read = option_map_is (watched name) (one_number words) found read_is in (
+      ap (λ ws. name ∷ ws) (one_is found.inst words small (read.1 ∙ ap (λ (w : Watched). Some w.inst) read.2))
+          ∙ ap (λ (w : Watched). w.name ∷ decimal found.inst ∷ []) read.2,
+      ap (λ (w : Watched). is_plain w.name) (sym read.2) ∙ plain,
+    ))
+    (λ _ none. cc) is
 
 line_is : (keyword : Keyword) (words : List (List ℕ)) (line : Line) → line_with keyword words ≡ Some line → Reads keyword words line
 line_is keywords.Heading words line is =
@@ -73,18 +71,14 @@ line_is keywords.Race words line is =
 line_is keywords.End [] line is = subst (Reads keywords.End []) (same_Some _ _ is) (λ _. (refl, refl, tt))
 line_is keywords.End (word ∷ words) line is = cc
 
-found_by : (first : Keyword) (others : List Keyword) (word : List ℕ) (keyword : Keyword) (same : Bool) → bytes_eq (text_of first) word ≡ same →
-    cond same (Some first) (find (λ k. bytes_eq (text_of k) word) others) ≡ Some keyword →
-    (find (λ k. bytes_eq (text_of k) word) others ≡ Some keyword → word ≡ text_of keyword) → word ≡ text_of keyword
-found_by first others word keyword true same is rest =
-    sym ((bytes_eq-Decides (text_of first) word).0 same) ∙ ap text_of (same_Some _ _ is)
-found_by first others word keyword false same is rest = rest is
-
 found_is : (among : List Keyword) (word : List ℕ) (keyword : Keyword) →
     find (λ k. bytes_eq (text_of k) word) among ≡ Some keyword → word ≡ text_of keyword
 found_is [] word keyword is = cc
 found_is (first ∷ others) word keyword is =
-    found_by first others word keyword (bytes_eq (text_of first) word) refl is (found_is others word keyword)
+    cond_both (bytes_eq (text_of first) word) (Some first) (find (λ k. bytes_eq (text_of k) word) others)
+    (λ (o : Option Keyword). o ≡ Some keyword → word ≡ text_of keyword)
+    (λ same found. sym ((bytes_eq-Decides (text_of first) word).0 same) ∙ ap text_of (same_Some _ _ found))
+    (λ _ found. found_is others word keyword found) is
 
 words_are : (words : List (List ℕ)) (line : Line) → AreUncut line → line_of_words words ≡ Some line →
     (words ≡ text_of (keyword_in line) ∷ operands_of line) × IsForm line

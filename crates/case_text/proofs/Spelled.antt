@@ -24,10 +24,8 @@ use Rattle.text_lines.specs.Part.{Lacks, lines_text, parts_of}
 use Rattle.text_lines.specs.RunWord.{run_turns}
 use Rattle.text_lines.proofs.Joined.{lines_parted}
 use Rattle.case_text.proofs.Accepted.{LeadTo, grown_none, uncut}
-use Rattle.case_text.proofs.Made.{same_input}
-use Rattle.case_text.proofs.Refused.{first_behind, lines_cons}
 use Rattle.case_text.proofs.Shapes.{line_again, line_lacks_feed}
-use Rattle.case_text.proofs.Steps.{equal_sites, grown, runs_again, site_again}
+use Rattle.case_text.proofs.Steps.{equal_sites, first_behind, grown, lines_cons, runs_again, same_input, site_again}
 
 stepped : (code : Module) (here : Progress) (number : ℕ) (line : Line) (after : Progress) → may_stand here.next (keyword_in line) ≡ true →
     with_line code number here.case line ≡ Ok after → step code here number line ≡ Ok after

@@ -1,5 +1,5 @@
--- What a line that is taken in tells of itself and of the case, and that such a line is taken in.
-use Rattle.std.proofs.Common.{◌≡◌, ℕ, ◌+◌, ◌*◌, ◌^◌, ◌<◌, ◌≤◌, Bool, true, false, cond, leb-true, ltb, ltb-true, ltb-false, le-leb, lt-ltb, List, [], ◌∷◌, ◌++◌, length, map, Option, Some, None, Result, Ok, Err, refl, ap, ◌∙◌, sym, arith, tests, append_assoc, append-nil, length-append}
+-- What a line that is taken in makes of the case, and where a fault is.
+use Rattle.std.proofs.Common.{◌≡◌, ℕ, ◌+◌, ◌*◌, ◌^◌, ◌<◌, ◌≤◌, Bool, true, false, cond, leb-true, ltb, ltb-true, ltb-false, le-leb, lt-ltb, List, [], ◌∷◌, ◌++◌, length, map, Option, Some, None, Result, Ok, Err, refl, ap, ◌∙◌, sym, arith, tests, append_assoc, append-nil, length-append, subst}
 use Rattle.std.specs.Cmp.{IsEquivalence}
 use Rattle.std.specs.List.{AllByRecursion, flat_map, list_any}
 use Rattle.std.proofs.lemmas.Bool.{and_parts}
@@ -18,15 +18,30 @@ use Rattle.case_text.specs.declared.keyword.Keyword.TheVariants as keywords
 use Rattle.case_text.specs.declared.line.Line.{Line}
 use Rattle.case_text.specs.declared.line.Line.TheVariants.{Heading, Field, Input, Watch, Turns, Race, End}
 use Rattle.case_text.specs.declared.progress.Progress.{Progress}
-use Rattle.case_text.specs.Keyword.{after_field, least_of, most_of, rank_of}
+use Rattle.case_text.specs.Keyword.{after_field, least_of, most_of, rank_of, may_stand}
 use Rattle.case_text.specs.Laws.{HasRoom, IsBodyLine, IsRun, races_in, turns_in, watched_in}
-use Rattle.case_text.specs.Line.{AreUncut, keyword_in}
-use Rattle.case_text.specs.Progress.{is_in_range, is_race, is_within, progress, with_field, with_line, with_race, with_runs}
+use Rattle.case_text.specs.Line.{AreUncut, keyword_in, line_of}
+use Rattle.case_text.specs.Progress.{is_in_range, is_race, is_within, progress, with_field, with_line, with_race, with_runs, is_ended, start, step, taken}
 use Rattle.case_text.specs.Watch.{is_watch, site_of, with_site, with_watch}
 use Rattle.case_text.specs.Words.{Watched, is_input}
 use Rattle.text_lines.specs.Number.{cut}
 use Rattle.text_lines.specs.RunWord.{IsUncut, count_of, run_turns}
 use Rattle.text_lines.specs.declared.run_word.RunWord.{RunWord}
+use Rattle.case_text.specs.Error.{place_of}
+use Rattle.case_text.specs.Read.{case_of, lines_from}
+use Rattle.text_lines.specs.Part.{Lacks, lines_text, parts_of}
+use Rattle.text_lines.proofs.FirstPart.{HasFirst, parts_have_first}
+use Rattle.text_lines.proofs.Joined.{lines_parted}
+use Rattle.std.proofs.Props.{props}
+use mathlib.Core.HLevel.{is_prop→PathP}
+use Rattle.ir_types.specs.declared.input.Input.{Input as Given, rising-type}
+
+-- inputs are equal where their slots are
+pub same_input : (x y : Given) → x.slots ≡ y.slots → x ≡ y
+same_input x y same = λ i. record {
+  slots = same i;
+  rising = is_prop→PathP {0} (λ j. rising-type (same j)) (λ j. hlevel props) x.rising y.rising i;
+}
 
 pub bind_ok : {A B : Type 0} (r : Result A CaseError) (f : A → Result B CaseError) (y : B) → (r >>= f) ≡ Ok y →
     (x : A) × (r ≡ Ok x) × (f x ≡ Ok y)
@@ -108,37 +123,11 @@ equal_sites = record {
   congr = λ x y z same. grind (arith, tests);
 }
 
--- the site of a line
-pub record AddsSite (code : Module) (sites : List Site) (words : Watched) (more : List Site) : Type 0 where
-  pub inst : words.inst < 2 ^ 32
-  pub room : length sites < 256
-  pub site : Site
-  pub site_is : site_of code words ≡ Some site
-  pub apart : list_any (is_site site) sites ≡ false
-  pub more_is : more ≡ sites ++ site ∷ []
-
 with_site_is : (number : ℕ) (sites more : List Site) (site : Site) (named : Bool) → list_any (is_site site) sites ≡ named →
     cond named (Err (errors.Site number)) (Ok (sites ++ site ∷ [])) ≡ Ok more →
     (list_any (is_site site) sites ≡ false) × (more ≡ sites ++ site ∷ [])
 with_site_is number sites more site true apart is = cc
 with_site_is number sites more site false apart is = (apart, sym (ok_is _ _ is))
-
-pub site_adds : (code : Module) (number : ℕ) (words : Watched) (sites more : List Site) → with_watch code number words sites ≡ Ok more →
-    AddsSite code sites words more
-unfolding with_watch
-site_adds code number words sites more is =
-    let within = guard_ok (is_watch sites words) (errors.Range number) _ more is in
-    let parts = and_parts _ _ within.0 in
-    let found = bind_ok (or_error (errors.Site number) (site_of code words)) (with_site number sites) more within.1 in
-    let added = with_site_is number sites more found.0 (list_any (is_site found.0) sites) refl found.2 in
-    record {
-      inst = ltb-true _ _ parts.0;
-      room = ltb-true _ _ parts.1;
-      site = found.0;
-      site_is = or_error_ok _ _ _ found.1;
-      apart = added.0;
-      more_is = added.1;
-    }
 
 pub site_again : (code : Module) (number : ℕ) (words : Watched) (sites : List Site) (site : Site) → words.inst < 2 ^ 32 → length sites < 256 →
     site_of code words ≡ Some site → list_any (is_site site) sites ≡ false → with_watch code number words sites ≡ Ok (sites ++ site ∷ [])
@@ -187,7 +176,7 @@ product_is most product false error here after test is = (ltb-false _ _ test, sy
 
 pub line_fits : (code : Module) (number : ℕ) (case : Case) (line : Line) (after : Progress) → with_line code number case line ≡ Ok after →
     Fits code case line after
-unfolding Fits
+unfolding Fits with_watch
 line_fits code number case Heading after is = sym (ok_is _ _ is)
 line_fits code number case (Field field value) after is =
     let within = guard_ok (is_within field value) (errors.Range number) _ after is in
@@ -196,23 +185,27 @@ line_fits code number case (Field field value) after is =
 line_fits code number case (Input words) after is = both_err (is_input words) (errors.Slot number) (errors.Range number) after is
 line_fits code number case (Watch words) after is =
     let made = bind_ok (with_watch code number words case.watch) _ after is in
-    let adds = site_adds code number words case.watch made.0 made.1 in
-    let more : made.0 ≡ case.watch ++ adds.site ∷ [] = adds.more_is in
+    let within = guard_ok (is_watch case.watch words) (errors.Range number) _ made.0 made.1 in
+    let parts = and_parts _ _ within.0 in
+    let low : words.inst < 2 ^ 32 = ltb-true _ _ parts.0 in
+    let few : length case.watch < 256 = ltb-true _ _ parts.1 in
+    let found = bind_ok (or_error (errors.Site number) (site_of code words)) (with_site number case.watch) made.0 within.1 in
+    let added = with_site_is number case.watch made.0 found.0 (list_any (is_site found.0) case.watch) refl found.2 in
     record {
-      is_line = adds.inst;
-      uncut = omega (arith, adds.inst);
-      sites = adds.site ∷ [];
-      sites_are = ap (λ s. s ∷ []) (sym adds.site_is);
+      is_line = low;
+      uncut = omega (arith, low);
+      sites = found.0 ∷ [];
+      sites_are = ap (λ s. s ∷ []) (sym (or_error_ok _ _ _ found.1));
       after_is =
           sym (ok_is _ _ made.2)
           ∙ (λ i. progress (Some keywords.Watch) (record case {
-            watch = more i;
+            watch = added.1 i;
             turns = sym (append-nil case.turns) i;
             races = sym (append-nil case.races) i;
           }));
       room = λ room. record {
-        watch = omega (arith, adds.room, length-append case.watch (adds.site ∷ []));
-        distinct = IsDistinct-push equal_sites case.watch adds.site room.distinct adds.apart;
+        watch = omega (arith, few, length-append case.watch (found.0 ∷ []));
+        distinct = IsDistinct-push equal_sites case.watch found.0 room.distinct added.0;
         turns = omega (arith, room.turns, length-append case.turns []);
         races = omega (arith, room.races, length-append case.races []);
       };
@@ -278,3 +271,108 @@ fits_uncut code case (Field field value) after fits = omega (arith, fits.1, (fie
 fits_uncut code case (Input words) after fits = absurd fits
 fits_uncut code case End after fits = tt
 fits_uncut code case line after fits = fits.uncut
+
+-- an error is not before this line
+NotBefore : {A : Type 0} → ℕ → Result A CaseError → Type 0
+NotBefore number (Ok x) = Unit {0}
+NotBefore number (Err error) = number ≤ place_of error
+
+at_guard : {A : Type 0} (b : Bool) (number : ℕ) (one other : Result A CaseError) → NotBefore number one → NotBefore number other →
+    NotBefore number (cond b one other)
+at_guard true number one other here there = here
+at_guard false number one other here there = there
+
+at_error : {A : Type 0} (number : ℕ) (error : CaseError) (o : Option A) → number ≤ place_of error → NotBefore number (or_error error o)
+unfolding NotBefore
+at_error number error None is = is
+at_error number error (Some x) is = tt
+
+at_bind : {A B : Type 0} (number : ℕ) (r : Result A CaseError) (f : A → Result B CaseError) → NotBefore number r →
+    ((x : A) → NotBefore number (f x)) → NotBefore number (r >>= f)
+unfolding NotBefore
+at_bind number (Ok x) f here rest = rest x
+at_bind number (Err error) f here rest = here
+
+watch_at : (code : Module) (number : ℕ) (words : Watched) (sites : List Site) → NotBefore number (with_watch code number words sites)
+unfolding NotBefore with_watch
+watch_at code number words sites =
+    at_guard (is_watch sites words) number _ (Err (errors.Range number))
+    (at_bind number (or_error (errors.Site number) (site_of code words)) (with_site number sites)
+    (at_error number (errors.Site number) (site_of code words) (omega arith))
+    (λ site. at_guard _ number (Err (errors.Site number)) (Ok (sites ++ site ∷ [])) (omega arith) tt)) (omega arith)
+
+line_at : (code : Module) (number : ℕ) (case : Case) (line : Line) → NotBefore number (with_line code number case line)
+unfolding NotBefore
+line_at code number case Heading = tt
+line_at code number case (Field field value) = at_guard (is_within field value) number _ (Err (errors.Range number)) tt (omega arith)
+line_at code number case (Input words) =
+    at_guard (is_input words) number (Err (errors.Slot number)) (Err (errors.Range number)) (omega arith) (omega arith)
+line_at code number case (Watch words) =
+    at_bind number (with_watch code number words case.watch) _ (watch_at code number words case.watch) (λ _. tt)
+line_at code number case (Turns runs) =
+    at_bind number (or_error (errors.Range number) (with_runs runs case.turns)) _
+    (at_error number (errors.Range number) (with_runs runs case.turns) (omega arith)) (λ _. tt)
+line_at code number case (Race first second) =
+    at_bind number (with_race number first second case.races) _
+    (at_guard (is_race case.races first second) number _ (Err (errors.Range number)) tt (omega arith)) (λ _. tt)
+line_at code number case End =
+    at_guard (ltb (2 ^ 24) (case.visits * case.steps)) number (Err (errors.Range number)) (Ok (progress None case)) (omega arith) tt
+
+taken_at : (code : Module) (here : Progress) (number : ℕ) (text : List ℕ) → NotBefore number (taken code here number text)
+unfolding NotBefore taken step
+taken_at code here number text =
+    at_bind number (or_error (errors.Syntax number) (line_of text)) (step code here number)
+    (at_error number (errors.Syntax number) (line_of text) (omega arith))
+    (λ line. at_guard (may_stand here.next (keyword_in line)) number _ (Err (errors.Syntax number)) (line_at code number here.case line) (omega arith))
+
+earlier : (number : ℕ) (r : Result Case CaseError) → NotBefore (number + 1) r → NotBefore number r
+unfolding NotBefore
+earlier number (Ok case) later = tt
+earlier number (Err error) later = omega arith
+
+lines_at : (code : Module) (parts : List (List ℕ)) (here : Progress) (number : ℕ) → NotBefore number (lines_from code here number parts)
+unfolding lines_from NotBefore
+lines_at code [] here number = omega arith
+lines_at code (last ∷ []) here number =
+    at_guard (is_ended here last) number (Ok here.case) (Err (errors.Syntax number)) tt (omega arith)
+lines_at code (line ∷ next ∷ more) here number =
+    at_bind number (taken code here number line) _ (taken_at code here number line)
+    (λ after. earlier number _ (lines_at code (next ∷ more) after (number + 1)))
+
+pub lines_cons : (code : Module) (here : Progress) (number : ℕ) (line : List ℕ) (rest : List (List ℕ)) → HasFirst rest →
+    lines_from code here number (line ∷ rest) ≡ ((taken code here number line) >>= (λ after. lines_from code after (number + 1) rest))
+unfolding lines_from
+lines_cons code here number line rest (first, others, is) = rw is refl
+
+pub first_behind : (lines parts : List (List ℕ)) → HasFirst parts → HasFirst (lines ++ parts)
+first_behind [] parts has = has
+first_behind (line ∷ lines) parts has = (line, lines ++ parts, refl)
+
+same_error : (r : Result Progress CaseError) (f g : Progress → Result Case CaseError) (error : CaseError) → (r >>= f) ≡ Err error →
+    ((after : Progress) → f after ≡ Err error → g after ≡ Err error) → (r >>= g) ≡ Err error
+same_error (Ok after) f g error is rest = rest after is
+same_error (Err other) f g error is rest = cc
+
+before : (number : ℕ) (r : Result Case CaseError) (error : CaseError) → NotBefore number r → r ≡ Err error → number ≤ place_of error
+unfolding NotBefore
+before number r error not_before is = subst (NotBefore number) is not_before
+
+refused_from : (code : Module) (lines parts others : List (List ℕ)) (here : Progress) (number : ℕ) (error : CaseError) → HasFirst parts → HasFirst others →
+    place_of error < number + length lines → lines_from code here number (lines ++ parts) ≡ Err error →
+    lines_from code here number (lines ++ others) ≡ Err error
+refused_from code [] parts others here number error has other_has place is =
+    absurd (omega (arith, before number _ error (lines_at code parts here number) is))
+refused_from code (line ∷ lines) parts others here number error has other_has place is =
+    lines_cons code here number line (lines ++ others) (first_behind lines others other_has)
+    ∙ same_error (taken code here number line) (λ after. lines_from code after (number + 1) (lines ++ parts))
+    (λ after. lines_from code after (number + 1) (lines ++ others)) error
+    (sym (lines_cons code here number line (lines ++ parts) (first_behind lines parts has)) ∙ is)
+    (λ after. refused_from code lines parts others after (number + 1) error has other_has (omega arith))
+
+pub refused : (code : Module) (lines : List (List ℕ)) (rest other : List ℕ) (error : CaseError) → AllByRecursion (Lacks 10) lines →
+    place_of error ≡ length lines → case_of code (lines_text lines ++ rest) ≡ Err error → case_of code (lines_text lines ++ other) ≡ Err error
+unfolding case_of
+refused code lines rest other error lack place is =
+    ap (lines_from code start 1) (lines_parted lines other lack)
+    ∙ refused_from code lines (parts_of 10 rest) (parts_of 10 other) start 1 error (parts_have_first 10 rest) (parts_have_first 10 other)
+    (omega arith) (sym (ap (lines_from code start 1) (lines_parted lines rest lack)) ∙ is)

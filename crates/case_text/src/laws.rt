@@ -35,7 +35,7 @@ pub fn spelled_text_is_accepted()
 /// A text that is refused at a line is refused so by the lines up to that one: whatever follows them, the same line
 /// is refused for the same reason. A line that lacks its line feed is none of these lines, since what ends there may
 /// go on.
-#[tactic(auto, using(crate::proofs::Refused::refused))]
+#[tactic(auto, using(crate::proofs::Steps::refused))]
 pub fn refused_line_is_never_accepted()
     ensures { (code : Module) (lines : List (List ℕ)) (rest other : List ℕ) (error : CaseError) →
         AllByRecursion (Lacks 10) lines → place_of error ≡ length lines →

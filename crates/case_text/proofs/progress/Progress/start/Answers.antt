@@ -3,7 +3,7 @@ use Rattle.ir_types.specs.declared.input.Input.{Input}
 use Rattle.ir_types.specs.declared.instruction.Site.{Site}
 use Rattle.case_text.specs.declared.keyword.Keyword.TheVariants.{Heading}
 use Rattle.case_text.specs.Progress.{no_case, no_input, progress, start}
-use Rattle.case_text.proofs.Made.{same_input}
+use Rattle.case_text.proofs.Steps.{same_input}
 use Rattle.case_text.proofs.progress.Progress.start.Goals as goal
 
 started : (input : Input) (watch : List Site) (turns : List ℕ) (races : List (ℕ × ℕ)) →
