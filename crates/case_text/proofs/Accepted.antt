@@ -190,32 +190,26 @@ body_read code (line ∷ lines) first case number whole low forms (after, is, le
     (λ more led. body_read code lines (keyword_in line) more (number + 1) whole behind forms.1 led)
     (line_sorts code case line after behind fits.1)
 
--- the first of some lines, where only one keyword may stand there
-record ReadHead (code : Module) (keyword : Keyword) (case : Case) (lines : List Line) (number : ℕ) (whole : Case) : Type 0 where
-  line : Line
+-- the first of some lines, with what is behind it
+record ReadHead (code : Module) (lines : List Line) (line : Line) (after : Progress) (number : ℕ) (whole : Case) : Type 0 where
   rest : List Line
-  after : Progress
   lines_are : lines ≡ line ∷ rest
-  keyword_is : keyword_in line ≡ keyword
-  fits : Fits code case line after
   forms : AllByRecursion IsForm rest
   lead : LeadTo code after (number + 1) rest whole
 
+-- where only one keyword may stand there
 head_read : (code : Module) (keyword : Keyword) (case : Case) (lines : List Line) (number : ℕ) (whole : Case) → rank_of keyword < 6 →
-    AllByRecursion IsForm lines → LeadTo code (progress (Some keyword) case) number lines whole → ReadHead code keyword case lines number whole
+    AllByRecursion IsForm lines → LeadTo code (progress (Some keyword) case) number lines whole →
+    (line : Line) × (after : Progress) × ReadHead code lines line after number whole × (keyword_in line ≡ keyword) × Fits code case line after
 head_read code keyword case [] number whole low forms lead = cc
 head_read code keyword case (line ∷ lines) number whole low forms (after, is, lead) =
-    let fits = step_fits code (progress (Some keyword) case) number line after is in
-    record {
-      line = line;
-      rest = lines;
-      after = after;
-      lines_are = refl;
-      keyword_is = sym (same_rank _ _ (stands_in_head (rank_of keyword) (rank_of (keyword_in line)) fits.0 low));
-      fits = fits.1;
-      forms = forms.1;
-      lead = lead;
-    }
+    let fits = step_fits code (progress (Some keyword) case) number line after is in (
+      line,
+      after,
+      record { rest = lines; lines_are = refl; forms = forms.1; lead = lead },
+      sym (same_rank _ _ (stands_in_head (rank_of keyword) (rank_of (keyword_in line)) fits.0 low)),
+      fits.1,
+    )
 
 -- a line by its keyword
 abbrev IsOf : Keyword → Line → Type 0
@@ -228,31 +222,21 @@ is_of Heading = refl
 is_of (Field field value) = (value, refl)
 is_of _ = tt
 
-record ReadField (code : Module) (field : OneNumber) (case : Case) (lines : List Line) (number : ℕ) (whole : Case) : Type 0 where
-  value : ℕ
-  low : least_of field ≤ value
-  high : value ≤ most_of field
-  rest : List Line
-  lines_are : lines ≡ Field field value ∷ rest
-  forms : AllByRecursion IsForm rest
-  lead : LeadTo code (progress (Some (after_field field)) (with_field field value case)) (number + 1) rest whole
-
 field_read : (code : Module) (field : OneNumber) (case : Case) (lines : List Line) (number : ℕ) (whole : Case) → AllByRecursion IsForm lines →
-    LeadTo code (progress (Some (keywords.Field field)) case) number lines whole → ReadField code field case lines number whole
+    LeadTo code (progress (Some (keywords.Field field)) case) number lines whole →
+    (value : ℕ) × (least_of field ≤ value) × (value ≤ most_of field)
+    × ReadHead code lines (Field field value) (progress (Some (after_field field)) (with_field field value case)) number whole
 unfolding Fits
 field_read code field case lines number whole forms lead =
     let head = head_read code (keywords.Field field) case lines number whole (field_bounds field).1 forms lead in
-    let line = subst (λ k. IsOf k head.line) head.keyword_is (is_of head.line) in
-    let fits : Fits code case (Field field line.0) head.after = subst (λ (l : Line). Fits code case l head.after) line.1 head.fits in
-    record {
-      value = line.0;
-      low = fits.0;
-      high = fits.1;
-      rest = head.rest;
-      lines_are = head.lines_are ∙ ap (λ l. l ∷ head.rest) line.1;
-      forms = head.forms;
-      lead = subst (λ (p : Progress). LeadTo code p (number + 1) head.rest whole) fits.2 head.lead;
-    }
+    let line = subst (λ k. IsOf k head.0) head.3 (is_of head.0) in
+    let fits : Fits code case (Field field line.0) head.1 = subst (λ (l : Line). Fits code case l head.1) line.1 head.4 in (
+      line.0,
+      fits.0,
+      fits.1,
+      subst (λ (p : Progress). ReadHead code lines (Field field line.0) p number whole) fits.2
+          (subst (λ (l : Line). ReadHead code lines l head.1 number whole) line.1 head.2),
+    )
 
 no_sites_distinct : IsDistinct is_site []
 unfolding IsDistinct
@@ -271,28 +255,29 @@ unfolding case_of Fits
 accepted code text case is =
     let read = lines_read code (parts_of 10 text) start 1 case is in
     let head = head_read code keywords.Heading no_case read.lines 1 case (omega arith) read.forms read.lead in
-    let heading : head.line ≡ Heading = subst (λ k. IsOf k head.line) head.keyword_is (is_of head.line) in
-    let headed : head.after ≡ progress (Some (keywords.Field Seed)) no_case = subst (λ (l : Line). Fits code no_case l head.after) heading head.fits in
-    let a = field_read code Seed no_case head.rest 2 case head.forms (subst (λ (p : Progress). LeadTo code p 2 head.rest case) headed head.lead) in
-    let with_seed : Case = with_field Seed a.value no_case in
-    let b = field_read code Steps with_seed a.rest 3 case a.forms a.lead in
-    let with_steps : Case = with_field Steps b.value with_seed in
-    let c = field_read code Visits with_steps b.rest 4 case b.forms b.lead in
-    let with_visits : Case = with_field Visits c.value with_steps in
-    let d = field_read code Paths with_visits c.rest 5 case c.forms c.lead in
-    let with_paths : Case = with_field Paths d.value with_visits in
-    let e = field_read code Schedules with_paths d.rest 6 case d.forms d.lead in
-    let with_all : Case = with_field Schedules e.value with_paths in
-    let rest = body_read code e.rest keywords.Input with_all 7 case (omega arith) e.forms e.lead in
+    let heading : head.0 ≡ Heading = subst (λ k. IsOf k head.0) head.3 (is_of head.0) in
+    let headed : head.1 ≡ progress (Some (keywords.Field Seed)) no_case = subst (λ (l : Line). Fits code no_case l head.1) heading head.4 in
+    let first = head.2 in
+    let a = field_read code Seed no_case first.rest 2 case first.forms (subst (λ (p : Progress). LeadTo code p 2 first.rest case) headed first.lead) in
+    let with_seed : Case = with_field Seed a.0 no_case in
+    let b = field_read code Steps with_seed (a.3).rest 3 case (a.3).forms (a.3).lead in
+    let with_steps : Case = with_field Steps b.0 with_seed in
+    let c = field_read code Visits with_steps (b.3).rest 4 case (b.3).forms (b.3).lead in
+    let with_visits : Case = with_field Visits c.0 with_steps in
+    let d = field_read code Paths with_visits (c.3).rest 5 case (c.3).forms (c.3).lead in
+    let with_paths : Case = with_field Paths d.0 with_visits in
+    let e = field_read code Schedules with_paths (d.3).rest 6 case (d.3).forms (d.3).lead in
+    let with_all : Case = with_field Schedules e.0 with_paths in
+    let rest = body_read code (e.3).rest keywords.Input with_all 7 case (omega arith) (e.3).forms (e.3).lead in
     let whole : Case = grown with_all rest.sites (flat_map turns_in rest.body) (flat_map races_in rest.body) in
     let lines_are : read.lines ≡ case_lines whole rest.body =
-    head.lines_are
-    ∙ (λ i. heading i ∷ a.lines_are i)
-    ∙ ap (λ ls. Heading ∷ Field Seed a.value ∷ ls) (b.lines_are
-    ∙ ap (λ ls. Field Steps b.value ∷ ls) (c.lines_are
-    ∙ ap (λ ls. Field Visits c.value ∷ ls) (d.lines_are
-    ∙ ap (λ ls. Field Paths d.value ∷ ls) (e.lines_are
-    ∙ ap (λ ls. Field Schedules e.value ∷ ls) rest.lines_are)))) in (
+    first.lines_are
+    ∙ (λ i. heading i ∷ (a.3).lines_are i)
+    ∙ ap (λ ls. Heading ∷ Field Seed a.0 ∷ ls) ((b.3).lines_are
+    ∙ ap (λ ls. Field Steps b.0 ∷ ls) ((c.3).lines_are
+    ∙ ap (λ ls. Field Visits c.0 ∷ ls) ((d.3).lines_are
+    ∙ ap (λ ls. Field Paths d.0 ∷ ls) ((e.3).lines_are
+    ∙ ap (λ ls. Field Schedules e.0 ∷ ls) rest.lines_are)))) in (
       rest.body,
       subst (λ (found : Case). Spells code text found rest.body) (sym rest.whole_is)
           (record {
@@ -308,12 +293,12 @@ accepted code text case is =
             turns_are = refl;
             races_are = refl;
             bounds = record {
-              seed = omega (arith, a.high);
-              steps = (b.low, b.high);
-              visits = (c.low, c.high);
+              seed = omega (arith, a.2);
+              steps = (b.1, b.2);
+              visits = (c.1, c.2);
               product = rest.product;
-              paths = omega (arith, d.low, d.high);
-              schedules = omega (arith, e.low, e.high);
+              paths = omega (arith, d.1, d.2);
+              schedules = omega (arith, e.1, e.2);
               input = refl;
               room = subst HasRoom rest.whole_is (rest.room (no_room with_all refl refl refl));
             };

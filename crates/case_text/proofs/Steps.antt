@@ -21,7 +21,7 @@ use Rattle.case_text.specs.declared.progress.Progress.{Progress}
 use Rattle.case_text.specs.Keyword.{after_field, least_of, most_of, rank_of, may_stand}
 use Rattle.case_text.specs.Laws.{HasRoom, IsBodyLine, IsRun, races_in, turns_in, watched_in}
 use Rattle.case_text.specs.Line.{AreUncut, keyword_in, line_of}
-use Rattle.case_text.specs.Progress.{is_in_range, is_race, is_within, progress, with_field, with_line, with_race, with_runs, is_ended, start, step, taken}
+use Rattle.case_text.specs.Progress.{is_ended, is_in_range, is_race, is_within, no_case, no_input, progress, start, step, taken, with_field, with_line, with_race, with_runs}
 use Rattle.case_text.specs.Watch.{is_watch, site_of, with_site, with_watch}
 use Rattle.case_text.specs.Words.{Watched, is_input}
 use Rattle.text_lines.specs.Number.{cut}
@@ -42,6 +42,17 @@ same_input x y same = λ i. record {
   slots = same i;
   rising = is_prop→PathP {0} (λ j. rising-type (same j)) (λ j. hlevel props) x.rising y.rising i;
 }
+
+pub started : (input : Given) (watch : List Site) (turns : List ℕ) (races : List (ℕ × ℕ)) →
+    input.slots ≡ [] → watch ≡ [] → turns ≡ [] → races ≡ [] →
+    progress (Some keywords.Heading) (record no_case { input = input; watch = watch; turns = turns; races = races }) ≡ start
+started input watch turns races slots sites no_turns no_races = λ i.
+    progress (Some keywords.Heading) (record no_case {
+      input = same_input input no_input slots i;
+      watch = sites i;
+      turns = no_turns i;
+      races = no_races i;
+    })
 
 pub bind_ok : {A B : Type 0} (r : Result A CaseError) (f : A → Result B CaseError) (y : B) → (r >>= f) ≡ Ok y →
     (x : A) × (r ≡ Ok x) × (f x ≡ Ok y)
