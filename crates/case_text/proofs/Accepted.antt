@@ -242,14 +242,6 @@ no_sites_distinct : IsDistinct is_site []
 unfolding IsDistinct
 no_sites_distinct = tt
 
-no_room : (case : Case) → case.watch ≡ [] → case.turns ≡ [] → case.races ≡ [] → HasRoom case
-no_room case watch turns races = record {
-  watch = omega (arith, ap length watch);
-  distinct = rw watch no_sites_distinct;
-  turns = omega (arith, ap length turns);
-  races = omega (arith, ap length races);
-}
-
 pub accepted : (code : Module) (text : List ℕ) (case : Case) → case_of code text ≡ Ok case → (body : List Line) × Spells code text case body
 unfolding case_of Fits
 accepted code text case is =
@@ -300,7 +292,7 @@ accepted code text case is =
               paths = omega (arith, d.1, d.2);
               schedules = omega (arith, e.1, e.2);
               input = refl;
-              room = subst HasRoom rest.whole_is (rest.room (no_room with_all refl refl refl));
+              room = subst HasRoom rest.whole_is (rest.room (record { watch = omega arith; distinct = no_sites_distinct; turns = omega arith; races = omega arith }));
             };
           }),
     )

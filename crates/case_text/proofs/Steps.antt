@@ -2,7 +2,7 @@
 use Rattle.std.proofs.Common.{◌≡◌, ℕ, ◌+◌, ◌*◌, ◌^◌, ◌<◌, ◌≤◌, Bool, true, false, cond, leb-true, ltb, ltb-true, ltb-false, le-leb, lt-ltb, List, [], ◌∷◌, ◌++◌, length, map, Option, Some, None, Result, Ok, Err, refl, ap, ◌∙◌, sym, arith, tests, append_assoc, append-nil, length-append, subst}
 use Rattle.std.specs.Cmp.{IsEquivalence}
 use Rattle.std.specs.List.{AllByRecursion, flat_map, list_any}
-use Rattle.std.proofs.lemmas.Bool.{and_parts}
+use Rattle.std.proofs.lemmas.Bool.{and_parts, cond_both}
 use Rattle.std.proofs.lemmas.List.{length-replicate}
 use Rattle.std.proofs.lemmas.Map.Keys.{IsDistinct-push}
 use Rattle.ir_types.specs.declared.instruction.Site.{Site}
@@ -128,11 +128,7 @@ runs_again (run ∷ runs) turns each few =
     rw (lt-ltb _ _ low, le-leb _ _ some, le-leb _ _ room) (runs_again runs (turns ++ run_turns run) each.1 (rw joins few) ∙ ap Some joins)
 
 pub equal_sites : IsEquivalence is_site
-equal_sites = record {
-  refl = λ x. grind (arith, tests);
-  symm = λ x y. grind (arith, tests);
-  congr = λ x y z same. grind (arith, tests);
-}
+equal_sites = record { refl = λ x. grind (arith, tests); symm = λ x y. grind (arith, tests); congr = λ x y z same. grind (arith, tests) }
 
 with_site_is : (number : ℕ) (sites more : List Site) (site : Site) (named : Bool) → list_any (is_site site) sites ≡ named →
     cond named (Err (errors.Site number)) (Ok (sites ++ site ∷ [])) ≡ Ok more →
@@ -176,15 +172,6 @@ Fits code case (Input words) after = ⊥
 Fits code case End after = (case.visits * case.steps ≤ 2 ^ 24) × (after ≡ progress None case)
 Fits code case line after = AddsLine code case line after
 
-both_err : (b : Bool) (one other : CaseError) (after : Progress) → cond b (Err one) (Err other) ≡ Ok after → ⊥
-both_err true one other after is = cc
-both_err false one other after is = cc
-
-product_is : (most product : ℕ) (over : Bool) (error : CaseError) (here after : Progress) → ltb most product ≡ over →
-    cond over (Err error) (Ok here) ≡ Ok after → (product ≤ most) × (after ≡ here)
-product_is most product true error here after test is = cc
-product_is most product false error here after test is = (ltb-false _ _ test, sym (ok_is _ _ is))
-
 pub line_fits : (code : Module) (number : ℕ) (case : Case) (line : Line) (after : Progress) → with_line code number case line ≡ Ok after →
     Fits code case line after
 unfolding Fits with_watch
@@ -193,7 +180,9 @@ line_fits code number case (Field field value) after is =
     let within = guard_ok (is_within field value) (errors.Range number) _ after is in
     let parts = and_parts _ _ within.0 in
     (leb-true _ _ parts.0, leb-true _ _ parts.1, sym (ok_is _ _ within.1))
-line_fits code number case (Input words) after is = both_err (is_input words) (errors.Slot number) (errors.Range number) after is
+line_fits code number case (Input words) after is =
+    cond_both (is_input words) (Err (errors.Slot number)) (Err (errors.Range number)) (λ (r : Result Progress CaseError). r ≡ Ok after → ⊥)
+    (λ _ bad. cc) (λ _ bad. cc) is
 line_fits code number case (Watch words) after is =
     let made = bind_ok (with_watch code number words case.watch) _ after is in
     let within = guard_ok (is_watch case.watch words) (errors.Range number) _ made.0 made.1 in
@@ -272,7 +261,9 @@ line_fits code number case (Race first second) after is =
       };
     }
 line_fits code number case End after is =
-    product_is (2 ^ 24) (case.visits * case.steps) (ltb (2 ^ 24) (case.visits * case.steps)) (errors.Range number) (progress None case) after refl is
+    cond_both (ltb (2 ^ 24) (case.visits * case.steps)) (Err (errors.Range number)) (Ok (progress None case))
+    (λ (r : Result Progress CaseError). r ≡ Ok after → (case.visits * case.steps ≤ 2 ^ 24) × (after ≡ progress None case))
+    (λ _ bad. cc) (λ test good. (ltb-false _ _ test, sym (ok_is _ _ good))) is
 
 -- the numbers of a line in its bounds are not cut
 pub fits_uncut : (code : Module) (case : Case) (line : Line) (after : Progress) → Fits code case line after → AreUncut line
