@@ -12,8 +12,8 @@ use Rattle.ir_types.specs.declared.«module».Block.{Block}
 use Rattle.ir_types.specs.declared.word.Kind.{Kind}
 use Rattle.ir_types.specs.declared.word.Kind.TheVariants.{Ptr}
 use Rattle.ir_types.specs.declared.word.Word.{Word, in_range-type}
-use Rattle.ir_read.specs.declared.line.Line.{Line}
-use Rattle.ir_read.specs.declared.line.Local.{Local}
+use Rattle.line_read.specs.declared.line.Line.{Line}
+use Rattle.line_read.specs.declared.line.Local.{Local}
 use Rattle.ir_check.specs.declared.layout.Layout.{Layout}
 use Rattle.ir_check.specs.Build.{block_of, function_of, function_with, functions_from, kinds_of, locals_of}
 use Rattle.ir_check.specs.Layout.{base_after, bytes_made, globals_from, layout_of, made_at, most_bytes, too_large}

@@ -6,10 +6,10 @@ use Rattle.std.specs.List.{cons_option, filter_map, list_any}
 use Rattle.std.specs.Option.{option_to_list}
 use Rattle.std.specs.Str.{bytes_eq}
 use Rattle.ir_check.specs.declared.layout.Layout.{Layout}
-use Rattle.ir_read.specs.declared.line.Form.{Form}
-use Rattle.ir_read.specs.declared.line.Form.TheVariants.{Define, DefineMain}
-use Rattle.ir_read.specs.declared.line.Line.{Line}
-use Rattle.ir_read.specs.declared.line.Line.TheVariants as lines
+use Rattle.line_read.specs.declared.line.Form.{Form}
+use Rattle.line_read.specs.declared.line.Form.TheVariants.{Define, DefineMain}
+use Rattle.line_read.specs.declared.line.Line.{Line}
+use Rattle.line_read.specs.declared.line.Line.TheVariants as lines
 use Rattle.ir_check.specs.Build.{function_of, functions_from}
 use Rattle.ir_check.specs.Layout.{number_in}
 use Rattle.ir_check.specs.Names.{function_name, has_form, in_form, is_define_main, main_name, thread_name}

@@ -4,10 +4,10 @@ use Rattle.std.proofs.lemmas.List.{length-take}
 use Rattle.std.specs.Int.{to_le_bytes, w64}
 use Rattle.std.specs.Prelude.{slice_get}
 use Rattle.ir_types.specs.Kind.{bytes_of_width}
-use Rattle.ir_read.specs.declared.line.Form.{Form}
-use Rattle.ir_read.specs.declared.line.Form.TheVariants.{Global}
-use Rattle.ir_read.specs.declared.line.Line.{Line}
-use Rattle.ir_read.specs.declared.line.Line.TheVariants as lines
+use Rattle.line_read.specs.declared.line.Form.{Form}
+use Rattle.line_read.specs.declared.line.Form.TheVariants.{Global}
+use Rattle.line_read.specs.declared.line.Line.{Line}
+use Rattle.line_read.specs.declared.line.Line.TheVariants as lines
 use Rattle.machine_model.specs.declared.state.Object.{Object}
 use Rattle.machine_model.specs.MemoryLaws.{AreApart}
 use Rattle.machine_model.specs.Start.{object_of_global}

@@ -1,7 +1,7 @@
 -- Each instruction of a checked module has its row.
 use Rattle.std.proofs.Common.{◌≡◌, List, true, None}
 use Rattle.std.specs.List.{list_any}
-use Rattle.ir_read.specs.declared.line.Line.{Line}
+use Rattle.line_read.specs.declared.line.Line.{Line}
 use Rattle.machine_model.specs.Rows.{HasRows}
 use Rattle.ir_check.specs.Build.{built}
 use Rattle.ir_check.specs.Check.{bad_line}

@@ -8,11 +8,11 @@ use Rattle.ir_types.specs.declared.word.Kind.{Kind}
 use Rattle.ir_types.specs.declared.word.Kind.TheVariants.{Int, Ptr}
 use Rattle.ir_types.specs.declared.word.Width.TheVariants.{W32}
 use Rattle.ir_check.specs.declared.layout.Layout.{Layout}
-use Rattle.ir_read.specs.declared.line.Form.{Form}
-use Rattle.ir_read.specs.declared.line.Form.TheVariants.{Define, DefineMain}
-use Rattle.ir_read.specs.declared.line.Line.{Line}
-use Rattle.ir_read.specs.declared.line.Line.TheVariants as lines
-use Rattle.ir_read.specs.declared.line.Local.{Local}
+use Rattle.line_read.specs.declared.line.Form.{Form}
+use Rattle.line_read.specs.declared.line.Form.TheVariants.{Define, DefineMain}
+use Rattle.line_read.specs.declared.line.Line.{Line}
+use Rattle.line_read.specs.declared.line.Line.TheVariants as lines
+use Rattle.line_read.specs.declared.line.Local.{Local}
 use Rattle.ir_check.specs.Build.{block_of, built, function_of, function_with, functions_from, inst_of, locals_of}
 use Rattle.machine_model.specs.Runnable.{HasSmallNumbers, IsRunnable}
 use Rattle.ir_check.specs.Layout.{layout_of}

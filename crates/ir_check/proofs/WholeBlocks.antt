@@ -19,11 +19,11 @@ use Rattle.ir_check.specs.declared.place.Place.{Place}
 use Rattle.ir_check.specs.declared.place.Place.TheVariants as places
 use Rattle.ir_check.specs.declared.scope.Scope.{Scope}
 use Rattle.ir_check.specs.declared.text.Text.{Text}
-use Rattle.ir_read.specs.declared.line.Form.{Form}
-use Rattle.ir_read.specs.declared.line.Form.TheVariants.{Global, Declare, Define, DefineMain, Close, Create, ReturnNull, ReturnValue}
-use Rattle.ir_read.specs.declared.line.Line.{Line}
-use Rattle.ir_read.specs.declared.line.Line.TheVariants as lines
-use Rattle.ir_read.specs.declared.line.Local.{Local}
+use Rattle.line_read.specs.declared.line.Form.{Form}
+use Rattle.line_read.specs.declared.line.Form.TheVariants.{Global, Declare, Define, DefineMain, Close, Create, ReturnNull, ReturnValue}
+use Rattle.line_read.specs.declared.line.Line.{Line}
+use Rattle.line_read.specs.declared.line.Line.TheVariants as lines
+use Rattle.line_read.specs.declared.line.Local.{Local}
 use Rattle.ir_check.specs.Build.{block_of, function_of, function_with, functions_from, inst_of, locals_of}
 use Rattle.ir_check.specs.Layout.{number_in}
 use Rattle.ir_check.specs.Names.{body_lines, ends_body, has_form, in_form, main_name}

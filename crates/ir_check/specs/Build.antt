@@ -19,12 +19,12 @@ use Rattle.ir_types.specs.declared.«module».Function.{Function}
 use Rattle.ir_types.specs.declared.«module».Block.{Block}
 use Rattle.ir_types.specs.Width.{bits_of}
 use Rattle.ir_check.specs.declared.layout.Layout.{Layout}
-use Rattle.ir_read.specs.declared.line.Form.{Form}
-use Rattle.ir_read.specs.declared.line.Form.TheVariants.{Global, Declare, Define, DefineMain, Close, Load, Store, Add, Create, Join, Putchar, ReturnNull, ReturnValue}
-use Rattle.ir_read.specs.declared.line.Line.{Line}
-use Rattle.ir_read.specs.declared.line.Local.{Local}
-use Rattle.ir_read.specs.declared.line.Value.{Value}
-use Rattle.ir_read.specs.declared.line.Value.TheVariants.{Register, Literal}
+use Rattle.line_read.specs.declared.line.Form.{Form}
+use Rattle.line_read.specs.declared.line.Form.TheVariants.{Global, Declare, Define, DefineMain, Close, Load, Store, Add, Create, Join, Putchar, ReturnNull, ReturnValue}
+use Rattle.line_read.specs.declared.line.Line.{Line}
+use Rattle.line_read.specs.declared.line.Local.{Local}
+use Rattle.line_read.specs.declared.line.Value.{Value}
+use Rattle.line_read.specs.declared.line.Value.TheVariants.{Register, Literal}
 use Rattle.ir_check.specs.Layout.{address_of, globals_of, layout_of, number_in}
 use Rattle.ir_check.specs.Names.{body_lines, in_form, local_eq, main_name, set_by}
 

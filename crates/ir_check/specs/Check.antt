@@ -5,7 +5,7 @@ use Rattle.ir_types.specs.declared.«module».Module.{Module}
 use Rattle.ir_check.specs.declared.error.ModuleError.{ModuleError}
 use Rattle.ir_check.specs.declared.error.ModuleError.TheVariants.{Unsupported, BadShape}
 use Rattle.ir_check.specs.declared.scope.Scope.{Scope}
-use Rattle.ir_read.specs.declared.line.Line.{Line}
+use Rattle.line_read.specs.declared.line.Line.{Line}
 use Rattle.ir_check.specs.Build.{built}
 use Rattle.ir_check.specs.Layout.{too_large}
 use Rattle.ir_check.specs.Names.{has_form, is_define_main}

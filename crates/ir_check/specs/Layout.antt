@@ -6,10 +6,10 @@ use Rattle.std.specs.Str.{bytes_eq}
 use Rattle.ir_types.specs.declared.«module».GlobalVar.{GlobalVar}
 use Rattle.ir_types.specs.Kind.{bytes_of_width}
 use Rattle.ir_check.specs.declared.layout.Layout.{Layout}
-use Rattle.ir_read.specs.declared.line.Form.{Form}
-use Rattle.ir_read.specs.declared.line.Form.TheVariants.{Global}
-use Rattle.ir_read.specs.declared.line.Line.{Line}
-use Rattle.ir_read.specs.declared.line.Line.TheVariants as lines
+use Rattle.line_read.specs.declared.line.Form.{Form}
+use Rattle.line_read.specs.declared.line.Form.TheVariants.{Global}
+use Rattle.line_read.specs.declared.line.Line.{Line}
+use Rattle.line_read.specs.declared.line.Line.TheVariants as lines
 use Rattle.ir_check.specs.Names.{function_name, global_name, in_form}
 
 -- 1 MiB

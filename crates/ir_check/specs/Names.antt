@@ -6,14 +6,14 @@ use Rattle.ir_check.specs.declared.registers.Registers.{Registers}
 use Rattle.ir_check.specs.declared.registers.Registers.TheVariants as registers
 use Rattle.ir_check.specs.declared.role.Role.{Role}
 use Rattle.ir_check.specs.declared.role.Role.TheVariants as roles
-use Rattle.ir_read.specs.declared.line.Callee.{Callee}
-use Rattle.ir_read.specs.declared.line.Callee.TheVariants as callees
-use Rattle.ir_read.specs.declared.line.Form.{Form}
-use Rattle.ir_read.specs.declared.line.Form.TheVariants.{Global, Declare, Define, DefineMain, Close, Load, Add, Create, Join, Putchar}
-use Rattle.ir_read.specs.declared.line.Line.{Line}
-use Rattle.ir_read.specs.declared.line.Line.TheVariants as lines
-use Rattle.ir_read.specs.declared.line.Local.{Local}
-use Rattle.ir_read.specs.declared.line.Local.TheVariants.{Number, Named}
+use Rattle.line_read.specs.declared.line.Callee.{Callee}
+use Rattle.line_read.specs.declared.line.Callee.TheVariants as callees
+use Rattle.line_read.specs.declared.line.Form.{Form}
+use Rattle.line_read.specs.declared.line.Form.TheVariants.{Global, Declare, Define, DefineMain, Close, Load, Add, Create, Join, Putchar}
+use Rattle.line_read.specs.declared.line.Line.{Line}
+use Rattle.line_read.specs.declared.line.Line.TheVariants as lines
+use Rattle.line_read.specs.declared.line.Local.{Local}
+use Rattle.line_read.specs.declared.line.Local.TheVariants.{Number, Named}
 
 -- the name of the function that a run begins with
 abbrev pub main_name : List ℕ

@@ -8,15 +8,15 @@ use Rattle.ir_check.specs.declared.place.Place.{Place}
 use Rattle.ir_check.specs.declared.place.Place.TheVariants as places
 use Rattle.ir_check.specs.declared.scope.Scope.{Scope}
 use Rattle.ir_check.specs.declared.text.Text.{Text}
-use Rattle.ir_read.specs.declared.line.Callee.TheVariants as callees
-use Rattle.ir_read.specs.declared.line.Form.{Form}
-use Rattle.ir_read.specs.declared.line.Form.TheVariants.{Global, Declare, Define, DefineMain, Close, Load, Store, Add, Create, Join, Putchar, ReturnNull, ReturnValue}
-use Rattle.ir_read.specs.declared.line.Line.{Line}
-use Rattle.ir_read.specs.declared.line.Line.TheVariants as lines
-use Rattle.ir_read.specs.declared.line.Local.{Local}
-use Rattle.ir_read.specs.declared.line.Local.TheVariants.{Number, Named}
-use Rattle.ir_read.specs.declared.line.Value.{Value}
-use Rattle.ir_read.specs.declared.line.Value.TheVariants.{Register, Literal}
+use Rattle.line_read.specs.declared.line.Callee.TheVariants as callees
+use Rattle.line_read.specs.declared.line.Form.{Form}
+use Rattle.line_read.specs.declared.line.Form.TheVariants.{Global, Declare, Define, DefineMain, Close, Load, Store, Add, Create, Join, Putchar, ReturnNull, ReturnValue}
+use Rattle.line_read.specs.declared.line.Line.{Line}
+use Rattle.line_read.specs.declared.line.Line.TheVariants as lines
+use Rattle.line_read.specs.declared.line.Local.{Local}
+use Rattle.line_read.specs.declared.line.Local.TheVariants.{Number, Named}
+use Rattle.line_read.specs.declared.line.Value.{Value}
+use Rattle.line_read.specs.declared.line.Value.TheVariants.{Register, Literal}
 use Rattle.ir_check.specs.Names.{body_lines, callee_name, declares, global_name, has_form, in_form, local_eq, main_name, narrow_set, thread_name, wide_set}
 use Rattle.ir_check.specs.Number.{value_of}
 

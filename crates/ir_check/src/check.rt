@@ -15,7 +15,7 @@ use crate::error::ModuleError;
 use crate::globals::too_large;
 use crate::scope::Scope;
 use crate::text::Text;
-use ir_read::{Form, Line};
+use line_read::{Form, Line};
 use ir_types::Module;
 use rc_base::{Failure, NoMemory};
 use std::alloc::Global;

@@ -8,7 +8,7 @@ ghost use Rattle.std.specs.List.{list_any};
 ghost use Rattle.ir_check.specs.Names.{local_eq};
 
 use crate::name_table::give_number;
-use ir_read::Local;
+use line_read::Local;
 use rc_base::NoMemory;
 use std::alloc::Global;
 use std::collections::HashMap;
@@ -24,8 +24,8 @@ pub struct LocalTable<'a, 's> {
 
 impl<'a, 's> Model for LocalTable<'a, 's> {
     ghost use Rattle.std.specs.Prelude.{◌≡◌, ℕ, List, map, position};
-    ghost use Rattle.ir_read.specs.declared.line.Local.{Local};
-    ghost use Rattle.ir_read.specs.declared.line.Local.TheVariants.{Number, Named};
+    ghost use Rattle.line_read.specs.declared.line.Local.{Local};
+    ghost use Rattle.line_read.specs.declared.line.Local.TheVariants.{Number, Named};
     ghost use Rattle.ir_check.specs.Names.{local_eq};
     ghost use Rattle.ir_check.specs.Table.{number_of};
 

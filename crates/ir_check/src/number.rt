@@ -4,7 +4,7 @@ ghost use Rattle.std.specs.Prelude.{◌≡◌, ◌+◌, ◌-◌, ◌*◌, ◌<�
 ghost use Rattle.ir_check.specs.Number.{ahead_of, digit_at, value_of};
 ghost use Rattle.ir_check.specs.Scope.{after_local, after_parameter, is_free};
 
-use ir_read::Local;
+use line_read::Local;
 use std::marker::Model;
 
 /// The least number that a name may have: `gap` more than digits spell.

@@ -6,7 +6,7 @@ ghost use Rattle.std.specs.Option.{option_copied};
 ghost use Rattle.ir_check.specs.Names.{callee_name, function_name, global_name, in_form, main_name, name_as, thread_name};
 
 use crate::name_table::NameTable;
-use ir_read::{Callee, Form, Line};
+use line_read::{Callee, Form, Line};
 use rc_base::NoMemory;
 use std::alloc::Global;
 

@@ -13,7 +13,7 @@ use crate::place::Place;
 use crate::registers::{Registers, body_lines, parameters_of, registers_of};
 use crate::role::{callee_name, main_name};
 use crate::text::Text;
-use ir_read::{Form, Line, Local, Value};
+use line_read::{Form, Line, Local, Value};
 use ir_types::Width;
 use rc_base::NoMemory;
 use std::alloc::Global;

@@ -7,7 +7,7 @@ ghost use Rattle.ir_check.specs.Scope.{text_of};
 
 use crate::name_table::NameTable;
 use crate::role::{Role, names_of};
-use ir_read::{Callee, Form, Line};
+use line_read::{Callee, Form, Line};
 use rc_base::NoMemory;
 use std::alloc::Global;
 

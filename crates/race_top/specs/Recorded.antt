@@ -2,7 +2,7 @@
 use Rattle.std.specs.Prelude.{ℕ, List, Result, Ok}
 use Rattle.case_text.specs.Read.{case_of}
 use Rattle.ir_check.specs.Check.{module_of}
-use Rattle.ir_read.specs.Line.{lines_of}
+use Rattle.line_read.specs.Line.{lines_of}
 use Rattle.rc_base.specs.Failures.{◌>>=◌}
 use Rattle.race_top.specs.declared.recorded.Recorded.{Recorded}
 use Rattle.race_top.specs.declared.refusal.Refusal.{Refusal}

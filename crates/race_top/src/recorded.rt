@@ -12,7 +12,7 @@ use crate::stop::Stop;
 use crate::trace_replay::replay;
 use case_text::read_case;
 use ir_check::check_module;
-use ir_read::read_lines;
+use line_read::read_lines;
 use ir_types::Module;
 use machine_model::{Case, Run};
 use std::alloc::Global;

@@ -1,6 +1,6 @@
 use Rattle.std.proofs.Common.{◌≡◌, ap, arith, length, List, option_to_list}
 use Rattle.std.specs.Option.{option_copied}
-use Rattle.ir_read.specs.declared.line.Local.{Local}
+use Rattle.line_read.specs.declared.line.Local.{Local}
 use Rattle.ir_check.specs.Build.{locals_of}
 use Rattle.ir_check.proofs.Builds.{locals_short}
 use Rattle.ir_check.proofs.build.locals_of.Goals as goal

@@ -1,6 +1,6 @@
 use Rattle.std.proofs.Common.{arith, length, ◌≡◌, ◌∙◌, [], ◌∷◌, ◌++◌, List, Bor, ap, map, position, refl, sym}
-use Rattle.ir_read.specs.declared.line.Local.{Local}
-use Rattle.ir_read.specs.declared.line.Local.TheVariants.{Number, Named}
+use Rattle.line_read.specs.declared.line.Local.{Local}
+use Rattle.line_read.specs.declared.line.Local.TheVariants.{Number, Named}
 use Rattle.ir_check.specs.Names.{local_eq}
 use Rattle.ir_check.proofs.Tables.{place_push}
 use Rattle.ir_check.proofs.local_table.LocalTable.push.Goals as goal

@@ -1,9 +1,0 @@
-use Rattle.ir_read.proofs.Readings.{line_spelled}
-use Rattle.ir_read.proofs.Spellings.{line_read}
-use Rattle.ir_read.proofs.laws.form_is_its_spelling.Goals as goal
-
-pub returns-clause-read : goal.returns-clause-read
-returns-clause-read c = line_read
-
-pub returns-clause-spelled : goal.returns-clause-spelled
-returns-clause-spelled c = line_spelled

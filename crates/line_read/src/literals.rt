@@ -1,0 +1,43 @@
+//! The numbers that tokens write.
+
+ghost use Rattle.std.specs.Prelude.{◌≡◌, ◌^◌, None, Some, IsTrue, nat_lt, if◌then◌else◌};
+ghost use Rattle.std.specs.Char.{is_ascii_digit};
+ghost use Rattle.std.specs.List.{list_all};
+ghost use Rattle.std.specs.Str.Parse.{digits_value};
+ghost use Rattle.line_read.specs.Line.{number_of, literal_of};
+
+use crate::names::is_all_digits;
+
+/// A literal modulo 2^64. There is none where the number without its sign is 2^64 or more.
+pub fn literal_of(text: &[u8]) -> Option<u64>
+    ensures { result ≡ literal_of text.now }
+{
+    match text {
+        [b'-', digits @ ..] => Some(number_of(digits)?.wrapping_neg()),
+        _ => number_of(text),
+    }
+}
+
+/// The number that decimal digits write.
+fn number_of(digits: &[u8]) -> Option<u64>
+    ensures { result ≡ number_of digits.now }
+{
+    if is_all_digits(digits) {
+        value_of(digits)
+    } else {
+        None
+    }
+}
+
+fn value_of(digits: &[u8]) -> Option<u64>
+    requires { IsTrue (list_all is_ascii_digit digits.now) }
+    ensures { result ≡ (if nat_lt (digits_value 10 digits.now) (2 ^ 64) then Some (digits_value 10 digits.now) else None) }
+{
+    let mut value: u64 = 0;
+    for digit in digits {
+        value = value
+            .checked_mul(10)?
+            .checked_add(u64::from(*digit - b'0'))?;
+    }
+    Some(value)
+}
