@@ -6,6 +6,7 @@
 //! - `outside`: reading and writing, each call failing in turn, gates, words and counted steps
 //! - `operations`: the values of operations on words at the edges of each width, and the sizes of kinds
 //! - `copies`: lists, inputs and turns
+//! - `lexer`: the tokens of texts
 //! - `accesses`: which accesses overlap, and which conflict
 //! - `choices`: which thread a chooser takes
 //! - `turns`, `courses`: machines and the run of a small module, turn by turn
@@ -24,6 +25,8 @@ mod choices;
 mod copies;
 #[cfg(test)]
 mod courses;
+#[cfg(test)]
+mod lexer;
 #[cfg(test)]
 mod operations;
 #[cfg(test)]
