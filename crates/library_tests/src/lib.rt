@@ -6,7 +6,7 @@
 //! - `outside`: reading and writing, each call failing in turn, gates, words and counted steps
 //! - `operations`: the values of operations on words at the edges of each width, and the sizes of kinds
 //! - `copies`: lists, inputs and turns
-//! - `lexer`: the tokens of texts
+//! - `lexer`, `modules`: the tokens of texts, and their items or first faults
 //! - `accesses`: which accesses overlap, and which conflict
 //! - `choices`: which thread a chooser takes
 //! - `turns`, `courses`: machines and the run of a small module, turn by turn
@@ -27,6 +27,8 @@ mod copies;
 mod courses;
 #[cfg(test)]
 mod lexer;
+#[cfg(test)]
+mod modules;
 #[cfg(test)]
 mod operations;
 #[cfg(test)]

@@ -1,0 +1,13 @@
+mod Accepted
+mod Advance
+mod Bottom
+mod Causes
+mod Decimals
+mod Equations
+mod Faults
+mod Finish
+mod Outcomes
+mod Parsing
+mod Reading
+mod Runs
+mod Samples

@@ -1,0 +1,12 @@
+pub mod Cause
+pub mod Grammar
+pub mod Laws
+pub mod Machine
+pub mod Name
+pub mod Node
+pub mod Read
+pub mod Skip
+pub mod Terminal
+pub mod Text
+pub mod Wants
+pub mod Words

@@ -1,0 +1,42 @@
+//! The grammar of modules: from their tokens to nodes in the order of the text, or to the first fault.
+//!
+//! - `terminal`, `words`, `number`: the classes of tokens
+//! - `grammar`: the grammar as a table of rules, whose rows stand in `token_rows`, `item_rows`, `type_rows`,
+//!   `constant_rows`, `body_rows` and `call_rows`
+//! - `skip`: what stands between the tokens of an item without a meaning
+//! - `wants`, `machine`: the stack of wanted rules, and the machine that reads a token at a time
+//! - `error`, `cause`: why a token is refused
+//! - `name`, `node`, `read`: what is kept, and the calls that read
+//! - `laws`: that the tokens that are read are the items of a module, and that an error is of the first fault
+#![tactic(auto)]
+
+mod body_rows;
+mod call_rows;
+mod cause;
+mod constant_rows;
+mod error;
+mod grammar;
+mod item_rows;
+pub mod laws;
+mod machine;
+mod name;
+mod node;
+mod number;
+mod read;
+mod skip;
+mod terminal;
+mod text;
+mod token_rows;
+mod type_rows;
+mod wants;
+mod words;
+
+pub use error::ModuleError;
+pub use grammar::Rule;
+pub use machine::{Machine, Refusal};
+pub use node::{Node, RawModule};
+pub use number::number_of;
+pub use read::{Ending, Reader};
+pub use skip::Mode;
+pub use terminal::{Terminal, terminal_of};
+pub use text::read_module;

@@ -1,0 +1,150 @@
+//! A reading of a module's tokens, one at a time.
+
+ghost use Rattle.std.specs.Prelude.{◌≡◌, [], ◌∷◌, IfOk};
+ghost use Rattle.rc_base.specs.Failures.{Gives};
+ghost use Rattle.ir_read.specs.Read as spec;
+
+use crate::cause::{ends_type, error_of};
+use crate::error::ModuleError;
+use crate::grammar::Rule;
+use crate::machine::Machine;
+use crate::node::{Node, RawModule, note};
+use crate::skip::{Mode, drops_comma};
+use crate::terminal::{Terminal, terminal_of};
+use ir_lex::Token;
+use rc_base::Failure;
+use std::alloc::{AllocError, Global};
+use std::marker::Model;
+
+/// What comes behind a text's tokens, with its line.
+#[derive(Clone, Copy)]
+pub enum Ending {
+    /// The end of the text, in its last line.
+    End { line: u32 },
+    /// A place where no token begins.
+    Bad { line: u32 },
+}
+
+impl Ending {
+    fn terminal(self) -> Terminal
+        ensures { result ≡ spec.terminal_at self }
+    {
+        match self {
+            Ending::End { .. } => Terminal::End,
+            Ending::Bad { .. } => Terminal::Bad,
+        }
+    }
+
+    fn line(self) -> u32
+        ensures { result ≡ spec.line_at self }
+    {
+        match self {
+            Ending::End { line } | Ending::Bad { line } => line,
+        }
+    }
+}
+
+/// A reading so far.
+#[derive(Drop)]
+pub struct Reader<'s> {
+    machine: Machine,
+    /// Whether the last token, skipped ones aside, ended a type.
+    behind_type: bool,
+    nodes: Vec<Node<'s>>,
+}
+
+impl<'s> Model for Reader<'s> {
+    ghost use Rattle.ir_read.specs.Read.{Progress};
+
+    ghost Value = { Progress };
+
+    ghost view = { λ reader. record { state = reader.machine; behind_type = reader.behind_type; nodes = reader.nodes.items } };
+}
+
+impl<'s> Reader<'s> {
+    /// Before the first token.
+    pub fn new(alloc: Global) -> Result<Reader<'s>, AllocError>
+        ensures { IfOk result (λ reader. reader ≡ spec.beginning) }
+    {
+        Ok(Reader {
+            machine: Machine::new(alloc)?,
+            behind_type: false,
+            nodes: Vec::new(alloc),
+        })
+    }
+
+    /// Goes on with a token.
+    pub fn take(&mut self, token: &Token<'s>) -> Result<(), Failure<ModuleError>>
+        ensures { Gives (λ _. self.new) result (spec.put self.old (spec.lexeme_of token.now)) }
+    {
+        self.put(terminal_of(token.kind, token.text), token.text, token.line)
+    }
+
+    /// Goes on with a token of the class. A reader that refused a token is of no more use.
+    #[tactic(auto, unfolding(crate::specs::Read::put))]
+    pub fn put(
+        &mut self,
+        terminal: Terminal,
+        text: &'s [u8],
+        line: u32,
+    ) -> Result<(), Failure<ModuleError>>
+        ensures { Gives (λ _. self.new) result (spec.put self.old (record { terminal = terminal; text = text.now; line = line })) }
+    {
+        let mode = self.machine.mode();
+        match self.machine.feed(terminal) {
+            Ok(taken) => {
+                self.behind_type = behind_after(taken, mode, self.behind_type, terminal);
+                note(&mut self.nodes, taken, terminal, text, line)?;
+                Ok(())
+            }
+            Err(Failure::Refused(refusal)) => {
+                let behind_type = directly_behind(mode, self.behind_type);
+                Err(Failure::Refused(error_of(behind_type, refusal, terminal, line)))
+            }
+            Err(Failure::NoMemory) => Err(Failure::NoMemory),
+        }
+    }
+
+    /// The items, where what ends the text may stand here.
+    #[tactic(auto, using(crate::proofs::Reading::read_fails, crate::proofs::Reading::read_ends))]
+    pub fn end(mut self, ending: Ending) -> Result<RawModule<'s>, Failure<ModuleError>>
+        ensures { Gives (λ found. found.nodes.items) result (spec.read_from self.entry (spec.lexeme_at ending ∷ [])) }
+    {
+        self.put(ending.terminal(), b"", ending.line())?;
+        self.finish()
+    }
+
+    /// The items. What ends a text leaves nothing to be wanted, so the other answer never comes behind it.
+    #[tactic(auto, unfolding(crate::specs::Read::finished))]
+    fn finish(self) -> Result<RawModule<'s>, Failure<ModuleError>>
+        ensures { Gives (λ found. found.nodes.items) result (spec.finished self.entry) }
+    {
+        if self.machine.is_done() {
+            Ok(RawModule { nodes: self.nodes })
+        } else {
+            Err(Failure::Refused(ModuleError::Syntax { line: 0 }))
+        }
+    }
+}
+
+/// Whether the next token directly follows one that ended a type: no comma lies between.
+#[tactic(auto, unfolding(crate::specs::Read::directly_behind))]
+fn directly_behind(mode: Mode, behind_type: bool) -> bool
+    ensures { result ≡ spec.directly_behind mode behind_type }
+{
+    match mode {
+        Mode::Comma => false,
+        _ => behind_type,
+    }
+}
+
+/// Whether the last token ended a type, behind one more.
+#[tactic(auto, unfolding(crate::specs::Read::behind_after))]
+fn behind_after(taken: Option<Rule>, mode: Mode, behind_type: bool, terminal: Terminal) -> bool
+    ensures { result ≡ spec.behind_after taken mode behind_type terminal }
+{
+    match taken {
+        Some(rule) => ends_type(rule, terminal),
+        None => directly_behind(mode, behind_type) || (behind_type && drops_comma(terminal)),
+    }
+}
