@@ -11,8 +11,8 @@ use crate::layout::Layout;
 use crate::local_table::LocalTable;
 use crate::registers::{Registers, body_lines, parameters_of, push_registers};
 use crate::role::main_name;
-use line_read::{Form, Line, Local, Name, Value};
 use ir_types::{BinOp, Block, Extern, Function, Inst, Kind, List, Module, Operand, Width, Word};
+use line_read::{Form, Line, Local, Name, Value};
 use rc_base::NoMemory;
 use std::alloc::Global;
 

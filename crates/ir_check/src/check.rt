@@ -15,8 +15,8 @@ use crate::error::ModuleError;
 use crate::globals::too_large;
 use crate::scope::Scope;
 use crate::text::Text;
-use line_read::{Form, Line};
 use ir_types::Module;
+use line_read::{Form, Line};
 use rc_base::{Failure, NoMemory};
 use std::alloc::Global;
 

@@ -4,8 +4,8 @@ ghost use Rattle.std.specs.Prelude.{◌≡◌, ◌+◌, ◌<◌, ◌≤◌, ◌^
 ghost use Rattle.ir_check.specs.Layout.{base_after, bytes_made, global_at, globals_of, made_at, next_base, too_large};
 ghost use Rattle.ir_check.specs.Names.{in_form};
 
-use line_read::{Form, Line};
 use ir_types::{GlobalVar, List};
+use line_read::{Form, Line};
 use rc_base::NoMemory;
 use std::alloc::Global;
 

@@ -5,8 +5,8 @@ ghost use Rattle.ir_check.specs.Layout.{address_of, globals_of, layout_of, numbe
 
 use crate::name_table::NameTable;
 use crate::role::{Role, names_of};
-use line_read::Line;
 use ir_types::{GlobalVar, List};
+use line_read::Line;
 use rc_base::NoMemory;
 use std::alloc::{AllocError, Global};
 

@@ -6,8 +6,8 @@ ghost use Rattle.std.specs.Option.{option_copied};
 ghost use Rattle.ir_check.specs.Names.{body_lines, ends_body, has_form, in_form, narrow_set, set_as, set_by, wide_set};
 
 use crate::local_table::LocalTable;
-use line_read::{Form, Line, Local};
 use ir_types::Width;
+use line_read::{Form, Line, Local};
 use rc_base::NoMemory;
 use std::alloc::Global;
 

@@ -5,8 +5,8 @@ ghost use Rattle.std.specs.List.{slice_split};
 ghost use Rattle.line_read.specs.Line.{callee_named, parameters_of, line_of, lines_of, without_end};
 
 use crate::forms::form_of;
-use line_lex::Lexer;
 use ir_types::Width;
+use line_lex::Lexer;
 use rc_base::NoMemory;
 use std::alloc::{AllocError, Global};
 use std::marker::Model;

@@ -6,8 +6,8 @@ ghost use Rattle.line_read.specs.Line.{Passes, Reads, as_callee, as_global, as_l
 use crate::line::{Callee, Local, Name, Value};
 use crate::literals::literal_of;
 use crate::names::{local_of, name_of};
-use line_lex::{Lexer, Token, TokenKind};
 use ir_types::Width;
+use line_lex::{Lexer, Token, TokenKind};
 
 /// Passes over the tokens that the phrase spells.
 #[tactic(auto, unfolding(crate::specs::Line::phrase_at))]

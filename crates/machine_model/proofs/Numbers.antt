@@ -1,6 +1,5 @@
 -- An instruction decides no more numbers than it is allowed.
-use Rattle.std.proofs.Common.{◌≡◌, ℕ, zero, suc, ◌≤◌, Bool, true, false, cond, List, [], ◌∷◌, Option, Some, None, refl, sym, ◌∙◌, arith}
-use Rattle.ir_types.specs.declared.instruction.Inst.{Inst}
+use Rattle.std.proofs.Common.{◌≡◌, ℕ, zero, suc, ◌≤◌, Bool, true, false, cond, List, [], ◌∷◌, Option, None, refl, sym, ◌∙◌, arith}
 use Rattle.ir_types.specs.declared.instruction.Inst.TheVariants.{Binary}
 use Rattle.machine_model.specs.Decision.{is_tested, next_number, numbers_within, once, test_of, value_of_binary}
 use Rattle.machine_model.specs.Laws.{NumbersNeedNoMore}

@@ -1,7 +1,7 @@
 -- What an instruction or a call does by its decided numbers alone. Whether it traps, what it costs, where it writes,
 -- where the thread goes on and what is made and ended are the same whatever registers, bytes and results hold: these
 -- have a part only in values.
-use Rattle.std.specs.Prelude.{◌≡◌, ℕ, Bool, List, length, map, option_map}
+use Rattle.std.specs.Prelude.{◌≡◌, ℕ, List, map, option_map}
 use Rattle.ir_types.specs.declared.external.Extern.{Extern}
 use Rattle.ir_types.specs.declared.instruction.Inst.{Inst}
 use Rattle.machine_model.specs.declared.state.Frame.{Frame}

@@ -12,8 +12,8 @@ use crate::stop::Stop;
 use crate::trace_replay::replay;
 use case_text::read_case;
 use ir_check::check_module;
-use line_read::read_lines;
 use ir_types::Module;
+use line_read::read_lines;
 use machine_model::{Case, Run};
 use std::alloc::Global;
 

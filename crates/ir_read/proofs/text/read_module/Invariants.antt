@@ -1,5 +1,4 @@
 use Rattle.std.proofs.Common.{◌≡◌, length}
-use Rattle.ir_lex.specs.Lexer.{tokens_of}
 use Rattle.ir_read.specs.Read as spec
 use Rattle.ir_read.specs.Text.{last_line, lexemes_left, raw_module_in}
 use Rattle.ir_read.proofs.text.read_module.Given as goal
