@@ -5,6 +5,7 @@ use Rattle.std.specs.List.{list_all}
 use Rattle.std.proofs.lemmas.List.Elements.{All-cons, All-nil}
 use Rattle.ir_lex.specs.declared.token.TokenKind.{TokenKind}
 use Rattle.ir_lex.specs.declared.token.TokenKind.TheVariants as kinds
+use Rattle.ir_lex.specs.Token.{is_token}
 use Rattle.ir_read.specs.declared.terminal.Terminal.{Terminal}
 use Rattle.ir_read.specs.declared.terminal.Terminal.TheVariants as t
 use Rattle.ir_read.specs.Laws.{IsReal, is_final}
@@ -112,17 +113,17 @@ unfoldable pub spelled : Terminal → Lexeme
 spelled terminal = record { terminal = terminal; text = text_of terminal; line = 0 }
 
 pub class_has_token : (terminal : Terminal) → is_final terminal ≡ false →
-    (kind : TokenKind) × (text : List ℕ) × (terminal_of kind text ≡ terminal)
+    (kind : TokenKind) × (text : List ℕ) × (is_token kind text ≡ true) × (terminal_of kind text ≡ terminal)
 unfolding text_of kind_of terminal_of word_class
 class_has_token t.End final = cc
 class_has_token t.Bad final = cc
-class_has_token terminal final = (kind_of terminal, text_of terminal, refl)
+class_has_token terminal final = (kind_of terminal, text_of terminal, refl, refl)
 
 spelled_real : (terminal : Terminal) → is_good terminal ≡ true → IsReal (spelled terminal)
 unfolding spelled text_of kind_of terminal_of word_class
 spelled_real t.End good = inl refl
 spelled_real t.Bad good = cc
-spelled_real terminal good = inr (kind_of terminal, refl)
+spelled_real terminal good = inr (kind_of terminal, refl, refl)
 
 and_both : (a b : Bool) → (a && b) ≡ true → (a ≡ true) × (b ≡ true)
 and_both true true is = (refl, refl)

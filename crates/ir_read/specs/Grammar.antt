@@ -7,7 +7,7 @@ use Rattle.ir_read.specs.declared.terminal.Terminal.TheVariants as t
 use Rattle.ir_read.specs.declared.grammar.Rule.{Rule}
 use Rattle.ir_read.specs.declared.grammar.Rule.TheVariants as r
 
--- ---- the rules of one token
+-- ---- the rules of one token, which want nothing more
 
 abbrev pub token_row : Rule → Terminal → Option (List Rule)
 token_row r.Equals t.Equals = Some []
@@ -49,6 +49,7 @@ token_row _ _ = None
 
 -- ---- items of a module
 
+-- `%name = type STRUCT`, `@name = global TYPE INITIALIZER`, `declare TYPE @name(..)`, `define TYPE @name(..) { .. }`
 abbrev pub items_row : Terminal → Option (List Rule)
 items_row t.End = Some []
 items_row t.Local = Some (r.Equals ∷ r.KeyType ∷ r.Aggregate ∷ r.Items ∷ [])
@@ -62,6 +63,7 @@ abbrev pub open_declared_row : Terminal → Option (List Rule)
 open_declared_row t.LeftParen = Some (r.Declared ∷ [])
 open_declared_row _ = None
 
+-- `TYPE, TYPE, ...)`, where each type may have a name behind it
 abbrev pub declared_row : Terminal → Option (List Rule)
 declared_row t.RightParen = Some []
 declared_row t.Ellipsis = Some (r.CloseParen ∷ [])
@@ -84,6 +86,7 @@ abbrev pub open_parameters_row : Terminal → Option (List Rule)
 open_parameters_row t.LeftParen = Some (r.Parameters ∷ [])
 open_parameters_row _ = None
 
+-- `TYPE %name, TYPE %name)`
 abbrev pub parameters_row : Terminal → Option (List Rule)
 parameters_row t.RightParen = Some []
 parameters_row _ = None
@@ -99,6 +102,7 @@ more_parameters_row _ = None
 
 -- ---- types
 
+-- `i32`, `ptr`, `%name`, `[n x TYPE]`, `{ TYPE, .. }`, `<{ TYPE, .. }>`
 abbrev pub type_row : Terminal → Option (List Rule)
 type_row t.Int = Some []
 type_row t.Ptr = Some []
@@ -108,6 +112,7 @@ type_row t.LeftBrace = Some (r.Fields ∷ [])
 type_row t.Less = Some (r.PackedBrace ∷ r.Fields ∷ r.CloseType ∷ [])
 type_row _ = None
 
+-- `{ TYPE, .. }` or `<{ TYPE, .. }>`
 abbrev pub aggregate_row : Terminal → Option (List Rule)
 aggregate_row t.LeftBrace = Some (r.Fields ∷ [])
 aggregate_row t.Less = Some (r.PackedBrace ∷ r.Fields ∷ r.CloseType ∷ [])
@@ -124,6 +129,7 @@ more_fields_row _ = None
 
 -- ---- constants
 
+-- a literal, `@name`, a constant expression, `[ .. ]`, `{ .. }` or `<{ .. }>`
 abbrev pub initializer_row : Terminal → Option (List Rule)
 initializer_row t.Natural = Some []
 initializer_row t.Negative = Some []
@@ -138,6 +144,7 @@ initializer_row t.LeftBrace = Some (r.Members ∷ [])
 initializer_row t.Less = Some (r.PackedBrace ∷ r.Members ∷ r.CloseMembers ∷ [])
 initializer_row _ = None
 
+-- `TYPE INITIALIZER, ..]`
 abbrev pub elements_row : Terminal → Option (List Rule)
 elements_row t.RightBracket = Some []
 elements_row _ = None
@@ -147,6 +154,7 @@ more_elements_row t.RightBracket = Some []
 more_elements_row t.Comma = Some (r.Type ∷ r.Initializer ∷ r.MoreElements ∷ [])
 more_elements_row _ = None
 
+-- `TYPE INITIALIZER, ..}`
 abbrev pub members_row : Terminal → Option (List Rule)
 members_row t.RightBrace = Some []
 members_row _ = None
@@ -156,6 +164,7 @@ more_members_row t.RightBrace = Some []
 more_members_row t.Comma = Some (r.Type ∷ r.Initializer ∷ r.MoreMembers ∷ [])
 more_members_row _ = None
 
+-- a register, a literal, `@name`, `getelementptr (TYPE, ptr @name, ..)` or `inttoptr (TYPE LITERAL to ptr)`
 abbrev pub operand_row : Terminal → Option (List Rule)
 operand_row t.Local = Some []
 operand_row t.Natural = Some []
@@ -172,6 +181,7 @@ abbrev pub comma_ptr_row : Terminal → Option (List Rule)
 comma_ptr_row t.Comma = Some (r.KeyPtr ∷ [])
 comma_ptr_row _ = None
 
+-- `, TYPE LITERAL ..)`
 abbrev pub indices_row : Terminal → Option (List Rule)
 indices_row t.RightParen = Some []
 indices_row t.Comma = Some (r.ValueType ∷ r.Literal ∷ r.Indices ∷ [])
@@ -179,6 +189,7 @@ indices_row _ = None
 
 -- ---- functions' bodies
 
+-- `label:`, `%name = OPERATION`, an instruction without a result, or the end of the body
 abbrev pub body_row : Terminal → Option (List Rule)
 body_row t.Label = Some (r.Body ∷ [])
 body_row t.RightBrace = Some []
@@ -190,6 +201,7 @@ body_row t.Ret = Some (r.Returned ∷ [])
 body_row t.Unreachable = Some (r.Body ∷ [])
 body_row _ = None
 
+-- an instruction that may have a result, with its operands
 abbrev pub operation_row : Terminal → Option (List Rule)
 operation_row t.Binary = Some (r.ValueType ∷ r.Operand ∷ r.CommaOperand ∷ r.Body ∷ [])
 operation_row t.Icmp = Some (r.Predicate ∷ r.ValueType ∷ r.Operand ∷ r.CommaOperand ∷ r.Body ∷ [])
@@ -215,6 +227,7 @@ abbrev pub comma_label_row : Terminal → Option (List Rule)
 comma_label_row t.Comma = Some (r.KeyLabel ∷ r.LocalName ∷ [])
 comma_label_row _ = None
 
+-- `[ OPERAND, %block ]`
 abbrev pub edge_row : Terminal → Option (List Rule)
 edge_row t.LeftBracket = Some (r.Operand ∷ r.CommaBlock ∷ r.CloseEdge ∷ [])
 edge_row _ = None
@@ -227,14 +240,17 @@ abbrev pub more_edges_row : Terminal → Option (List Rule)
 more_edges_row t.Comma = Some (r.Edge ∷ r.MoreEdges ∷ [])
 more_edges_row _ = None
 
+-- `, TYPE OPERAND` or nothing, and the rest of the body
 abbrev pub count_row : Terminal → Option (List Rule)
 count_row t.Comma = Some (r.ValueType ∷ r.Operand ∷ r.Body ∷ [])
 count_row _ = None
 
+-- `, TYPE OPERAND` as often as it comes, and the rest of the body
 abbrev pub steps_row : Terminal → Option (List Rule)
 steps_row t.Comma = Some (r.ValueType ∷ r.Operand ∷ r.Steps ∷ [])
 steps_row _ = None
 
+-- `label %block`, or `TYPE OPERAND, label %block, label %block`
 abbrev pub branch_row : Terminal → Option (List Rule)
 branch_row t.KeyLabel = Some (r.LocalName ∷ r.Body ∷ [])
 branch_row _ = None
@@ -243,22 +259,26 @@ abbrev pub open_cases_row : Terminal → Option (List Rule)
 open_cases_row t.LeftBracket = Some (r.Cases ∷ [])
 open_cases_row _ = None
 
+-- `TYPE LITERAL, label %block ..]`
 abbrev pub cases_row : Terminal → Option (List Rule)
 cases_row t.RightBracket = Some (r.Body ∷ [])
 cases_row _ = None
 
+-- `void`, or `TYPE OPERAND`
 abbrev pub returned_row : Terminal → Option (List Rule)
 returned_row t.Void = Some (r.Body ∷ [])
 returned_row _ = None
 
 -- ---- calls
 
+-- `@name(..)`, or `(TYPE, ..) @name(..)`
 abbrev pub callee_row : Terminal → Option (List Rule)
 callee_row t.LeftParen = Some (r.Written ∷ r.CalleeName ∷ r.OpenArguments ∷ [])
 callee_row t.Global = Some (r.OpenArguments ∷ [])
 callee_row t.OddGlobal = Some (r.OpenArguments ∷ [])
 callee_row _ = None
 
+-- `TYPE, TYPE, ...)`
 abbrev pub written_row : Terminal → Option (List Rule)
 written_row t.RightParen = Some []
 written_row t.Ellipsis = Some (r.CloseWritten ∷ [])
@@ -277,6 +297,7 @@ abbrev pub open_arguments_row : Terminal → Option (List Rule)
 open_arguments_row t.LeftParen = Some (r.Arguments ∷ [])
 open_arguments_row _ = None
 
+-- `TYPE OPERAND, ..)`
 abbrev pub arguments_row : Terminal → Option (List Rule)
 arguments_row t.RightParen = Some (r.Body ∷ [])
 arguments_row _ = None

@@ -1,6 +1,7 @@
 -- What it means that tokens are a module, and which token is the first fault.
 use Rattle.std.specs.Prelude.{◌≡◌, ℕ, zero, suc, ◌+◌, ◌<◌, ◌≤◌, ◌⊎◌, Bool, true, false, List, [], ◌∷◌, ◌++◌, length, take, All, Option, Some, None}
 use Rattle.ir_lex.specs.declared.token.TokenKind.{TokenKind}
+use Rattle.ir_lex.specs.Token.{is_token}
 use Rattle.ir_read.specs.declared.error.ModuleError.{ModuleError}
 use Rattle.ir_read.specs.declared.grammar.Rule.{Rule}
 use Rattle.ir_read.specs.declared.grammar.Rule.TheVariants as r
@@ -50,9 +51,11 @@ pub record Reads (tokens : List Lexeme) (nodes : List Told) : Type 0 where
 abbrev pub Accepted : List Lexeme → Type 0
 Accepted tokens = (nodes : List Told) × Reads tokens nodes
 
--- the end of a text, or a token by the text that it has
+-- the end of a text, or a token of a kind, by the text that it has
 abbrev pub IsReal : Lexeme → Type 0
-IsReal token = (token.terminal ≡ t.End) ⊎ ((kind : TokenKind) × (terminal_of kind token.text ≡ token.terminal))
+IsReal token =
+    (token.terminal ≡ t.End)
+    ⊎ ((kind : TokenKind) × (is_token kind token.text ≡ true) × (terminal_of kind token.text ≡ token.terminal))
 
 -- with some tokens behind them these are a module
 pub record Begins (tokens : List Lexeme) : Type 0 where

@@ -9,6 +9,7 @@ ghost use Rattle.ir_read.specs.declared.error.ModuleError.TheVariants as errors;
 ghost use Rattle.ir_read.specs.declared.machine.Refusal.{Refusal};
 ghost use Rattle.ir_read.specs.declared.terminal.Terminal.{Terminal};
 ghost use Rattle.ir_read.specs.declared.terminal.Terminal.TheVariants as classes;
+ghost use Rattle.ir_lex.specs.Token.{is_token};
 ghost use Rattle.ir_lex.specs.declared.token.TokenKind.{TokenKind};
 ghost use Rattle.ir_read.specs.Cause.{error_of, is_word};
 ghost use Rattle.ir_read.specs.Terminal.{terminal_of};
@@ -50,5 +51,5 @@ pub fn errors_go_by_classes()
 /// Each class but those that end a text is the class of some token.
 pub fn classes_have_tokens()
     ensures { (terminal : Terminal) → is_final terminal ≡ false →
-        (kind : TokenKind) × (text : List ℕ) × (terminal_of kind text ≡ terminal) }
+        (kind : TokenKind) × (text : List ℕ) × (is_token kind text ≡ true) × (terminal_of kind text ≡ terminal) }
 {}
