@@ -135,6 +135,7 @@ fn is_other_token(terminal: Terminal) -> bool
 
 /// Whether the token that the rule took ends a type.
 #[tactic(auto, unfolding(crate::specs::Cause::ends_type))]
+#[inline(always)]
 pub fn ends_type(rule: Rule, terminal: Terminal) -> bool
     ensures { result ≡ spec.ends_type rule terminal }
 {

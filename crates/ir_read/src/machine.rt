@@ -55,6 +55,7 @@ impl Machine {
     /// Goes on with a token of the class. The answer is the rule that took it, where it is not skipped and no comma.
     /// A machine that refused a token is of no more use.
     #[tactic(auto, unfolding(crate::specs::Machine::fed))]
+    #[inline(always)]
     pub fn feed(&mut self, terminal: Terminal) -> Result<Option<Rule>, Failure<Refusal>>
         ensures { Gives (λ taken. (taken, self.new)) result (fed self.old terminal) }
     {
@@ -66,6 +67,7 @@ impl Machine {
     }
 
     #[tactic(auto, unfolding(crate::specs::Machine::fed_free))]
+    #[inline(always)]
     fn feed_free(&mut self, terminal: Terminal) -> Result<Option<Rule>, Failure<Refusal>>
         ensures { Gives (λ taken. (taken, self.new)) result (fed_free self.old.wants terminal) }
     {
@@ -88,6 +90,7 @@ impl Machine {
     }
 
     #[tactic(auto, unfolding(crate::specs::Machine::fed_behind_comma))]
+    #[inline(always)]
     fn feed_behind_comma(&mut self, terminal: Terminal) -> Result<Option<Rule>, Failure<Refusal>>
         ensures { Gives (λ taken. (taken, self.new)) result (fed_behind_comma self.old.wants terminal) }
     {

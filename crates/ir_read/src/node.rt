@@ -60,6 +60,7 @@ pub struct RawModule<'s> {
 
 /// Keeps a token that a rule took.
 #[tactic(auto, unfolding(crate::specs::Node::noted, crate::specs::Node::told))]
+#[inline(always)]
 pub fn note<'s>(
     nodes: &mut Vec<Node<'s>>,
     taken: Option<Rule>,

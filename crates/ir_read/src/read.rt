@@ -74,6 +74,7 @@ impl<'s> Reader<'s> {
     }
 
     /// Goes on with a token.
+    #[inline(always)]
     pub fn take(&mut self, token: &Token<'s>) -> Result<(), Failure<ModuleError>>
         ensures { Gives (λ _. self.new) result (spec.put self.old (spec.lexeme_of token.now)) }
     {
@@ -82,6 +83,7 @@ impl<'s> Reader<'s> {
 
     /// Goes on with a token of the class. A reader that refused a token is of no more use.
     #[tactic(auto, unfolding(crate::specs::Read::put))]
+    #[inline(always)]
     pub fn put(
         &mut self,
         terminal: Terminal,
@@ -129,6 +131,7 @@ impl<'s> Reader<'s> {
 
 /// Whether the next token directly follows one that ended a type: no comma lies between.
 #[tactic(auto, unfolding(crate::specs::Read::directly_behind))]
+#[inline(always)]
 fn directly_behind(mode: Mode, behind_type: bool) -> bool
     ensures { result ≡ spec.directly_behind mode behind_type }
 {
@@ -140,6 +143,7 @@ fn directly_behind(mode: Mode, behind_type: bool) -> bool
 
 /// Whether the last token ended a type, behind one more.
 #[tactic(auto, unfolding(crate::specs::Read::behind_after))]
+#[inline(always)]
 fn behind_after(taken: Option<Rule>, mode: Mode, behind_type: bool, terminal: Terminal) -> bool
     ensures { result ≡ spec.behind_after taken mode behind_type terminal }
 {

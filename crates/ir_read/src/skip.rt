@@ -25,6 +25,7 @@ pub enum Mode {
 
 /// Where reading stands behind the first token of a skipped form.
 #[tactic(auto, unfolding(crate::specs::Skip::skip_of))]
+#[inline(always)]
 pub fn skip_of(terminal: Terminal) -> Option<Mode>
     ensures { result ≡ spec.skip_of terminal }
 {

@@ -67,6 +67,7 @@ impl Wants {
         }
     }
 
+    #[inline(always)]
     fn pop(&mut self) -> Option<Rule>
         ensures { MatchOption result (self.old ≡ []) (λ rule. self.old ≡ rule ∷ self.new) }
     {
@@ -74,6 +75,7 @@ impl Wants {
     }
 
     /// These are wanted before the others.
+    #[inline(always)]
     fn put(&mut self, rules: &[Rule]) -> Result<(), AllocError>
         ensures { OnOk result (self.new ≡ rules.now ++ self.old) }
     {
