@@ -64,7 +64,7 @@ abbrev pub is_in_range : List ℕ → RunWord → Bool
 is_in_range turns run =
     nat_lt run.thread 16 && nat_le 1 (count_of run.times) && nat_le (length turns + count_of run.times) 20000
 
--- the turns with those of the runs behind them
+-- the turns with those of the runs behind them, where each run is in its range
 unfoldable pub with_runs : List RunWord → List ℕ → Option (List ℕ)
 with_runs [] turns = Some turns
 with_runs (run ∷ runs) turns = if is_in_range turns run then with_runs runs (turns ++ run_turns run) else None

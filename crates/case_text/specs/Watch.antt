@@ -3,7 +3,7 @@ use Rattle.std.specs.Prelude.{ℕ, ◌^◌, Bool, ◌&&◌, false, true, nat_lt,
 use Rattle.std.specs.List.{flat_map, list_any}
 use Rattle.std.specs.Str.{bytes_eq}
 use Rattle.ir_types.specs.declared.instruction.Inst.{Inst}
-use Rattle.ir_types.specs.declared.instruction.Inst.TheVariants.{Load, Store}
+use Rattle.ir_types.specs.declared.instruction.Inst.TheVariants.{Binary, Compare, Convert, Same, Select, Phi, Alloca, Load, Store, Address, Branch, BranchIf, Switch, Ret, Unreachable, Call, External}
 use Rattle.ir_types.specs.declared.instruction.Site.{Site}
 use Rattle.ir_types.specs.declared.«module».Function.{Function}
 use Rattle.ir_types.specs.declared.«module».Module.{Module}
@@ -16,7 +16,21 @@ use Rattle.case_text.specs.Words.{Watched}
 abbrev pub is_access : Inst → Bool
 is_access (Load to kind at) = true
 is_access (Store kind value at) = true
-is_access _ = false
+is_access (Binary to op a b) = false
+is_access (Compare to op a b) = false
+is_access (Convert to op a width) = false
+is_access (Same to a) = false
+is_access (Select to c a b) = false
+is_access (Phi to edges) = false
+is_access (Alloca to unit count) = false
+is_access (Address to base fixed scaled) = false
+is_access (Branch block) = false
+is_access (BranchIf c one other) = false
+is_access (Switch value default cases) = false
+is_access (Ret value) = false
+is_access Unreachable = false
+is_access (Call to function arguments) = false
+is_access (External to which arguments) = false
 
 -- the instruction of this number in the function, counted from 0 through all its blocks
 abbrev pub inst_of : Function → ℕ → Option Inst

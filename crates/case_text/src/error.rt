@@ -19,6 +19,7 @@ pub enum CaseError {
 }
 
 impl CaseError {
+    /// What is wrong, in a word.
     pub fn name(self) -> &'static str
         ensures { result.now ≡ name_of self }
     {

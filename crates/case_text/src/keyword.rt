@@ -17,6 +17,7 @@ pub enum Field {
 }
 
 impl Field {
+    /// The least number that its line may have.
     pub fn least(self) -> u128
         ensures { result ≡ least_of self }
     {
@@ -26,7 +27,7 @@ impl Field {
         }
     }
 
-    /// Not served yet: more than one path, and more than one schedule.
+    /// The greatest number that its line may have. Not served yet: more than one path, and more than one schedule.
     pub fn most(self) -> u128
         ensures { result ≡ most_of self }
     {
@@ -79,6 +80,7 @@ const KEYWORDS: [Keyword; 11] = [
 ];
 
 impl Keyword {
+    /// The keyword that the word is, if it is one.
     pub fn read(word: &[u8]) -> Option<Keyword>
         ensures { result ≡ keyword_of word.now }
     {

@@ -12,7 +12,8 @@ ghost use Rattle.case_text.specs.declared.line.Line.{Line};
 ghost use Rattle.ir_types.specs.declared.«module».Module.{Module};
 ghost use Rattle.text_lines.specs.Part.{Lacks, lines_text};
 
-/// A text has the shape of a line whose numbers are below 2^64 where it is the line's own spelling, and nowhere else.
+/// A text has the shape of a line whose numbers are below 2^64 where it is the line's own spelling, its name is plain
+/// if it has one, and there is a run if it is of runs; and nowhere else.
 pub fn a_line_is_its_spelling()
     ensures { (text : List ℕ) (line : Line) → AreUncut line →
         ((line_of text ≡ Some line) ↔ ((text ≡ line_text line) × IsForm line)) }

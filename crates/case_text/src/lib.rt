@@ -7,7 +7,8 @@
 //! - `watch`: the loads and stores that lines of watched sites name
 //! - `progress`: what was read so far, and each kind of line that is taken in
 //! - `read`: the call that reads a whole text
-//! - `laws`: that an accepted text is the lines of its case, and that a refused line is never accepted
+//! - `laws`: that a line is its spelling, that what is accepted is exactly what spells a case, and that a refused line is
+//!   never accepted
 #![tactic(auto)]
 
 mod error;

@@ -76,6 +76,7 @@ impl<'s> Line<'s> {
         Some(Line::Race(first, second))
     }
 
+    /// The line's first word.
     pub fn keyword(&self) -> Keyword
         ensures { result ≡ keyword_in self.now }
     {

@@ -55,7 +55,7 @@ fn site_of(code: &Module, line: u32, name: &[u8], inst: u32) -> Result<Site, Fai
     if !inst_of(blocks, inst as usize).is_some_and(is_access) {
         return Err(Failure::Refused(CaseError::Site { line }));
     }
-    // No memory holds more functions than a site can number.
+    // No checked module has more functions than a site can number, since it has fewer than 2^32 lines.
     let Ok(function) = u32::try_from(function) else {
         return Err(Failure::NoMemory);
     };

@@ -16,6 +16,7 @@ pub struct InputWords {
 }
 
 impl InputWords {
+    /// Whether slot, width and value are in their bounds.
     pub fn is_input(self) -> bool
         ensures { result ≡ is_input self }
     {

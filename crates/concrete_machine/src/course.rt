@@ -1,6 +1,6 @@
 //! A run so far, turn by turn.
 
-ghost use Rattle.std.specs.Prelude.{◌≡◌, ◌<◌, ◌≤◌, IfOk, IfSome, OnOk, Some, option_map};
+ghost use Rattle.std.specs.Prelude.{◌≡◌, ◌+◌, ◌<◌, ◌≤◌, IfOk, IfSome, OnOk, Some, option_map};
 ghost use Rattle.machine_model.specs.Enabled.{enabled};
 ghost use Rattle.machine_model.specs.Moment.{access_at};
 ghost use Rattle.machine_model.specs.Policy.{choose};
@@ -115,6 +115,7 @@ impl Course {
             ≡ advance_of next) }
         ensures of { IfOk result (GoesOn code.now case.now) }
         ensures falls { IfOk result (λ next. left_in next ≤ self.left) }
+        ensures cost { IfOk result (λ next. left_in next + steps.new ≡ self.left + steps.old) }
     {
         self.turns.push(thread as u8)?;
         let mut left = self.left;
@@ -152,6 +153,7 @@ impl Course {
             advanced (machine_of (setting_of code.now case.now input.now)) case.now.turns (course_of self) ≡ advance_of next) }
         ensures of { IfOk result (GoesOn code.now case.now) }
         ensures falls { IfOk result (λ next. left_in next ≤ self.left) }
+        ensures cost { IfOk result (λ next. left_in next + steps.new ≡ self.left + steps.old) }
     {
         let Some(thread) = self.choose(code)? else {
             return Ok(Advance::Over(self, Outcome::Deadlock));

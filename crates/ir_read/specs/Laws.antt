@@ -89,7 +89,8 @@ token_at [] place = None
 token_at (token ∷ tokens) zero = Some token
 token_at (token ∷ tokens) (suc place) = token_at tokens place
 
--- the error is the token's, by its class and in its line
+-- the error is one that some rule gives to a token of its class, in its line; at marks, names, numbers and texts that is
+-- either of two, of which the definition takes one
 abbrev pub IsErrorAt : ModuleError → Option Lexeme → Type 0
 IsErrorAt error None = ⊥
 IsErrorAt error (Some token) = (behind_type : Bool) × (refusal : Refusal) × (error ≡ error_of behind_type refusal token.terminal token.line)

@@ -20,7 +20,8 @@ is_name_byte byte = is_ascii_alphanumeric byte || byte == 36 || byte == 46 || by
 abbrev pub is_plain_or_quote : ℕ → Bool
 is_plain_or_quote byte = byte == 34 || is_name_byte byte
 
--- a plain name, with or without quotes round it, and not an empty one
+-- bytes of plain names alone, quotes aside, and at least one: of a token's name, that it is plain, with or without quotes
+-- round it, and not empty
 abbrev pub is_plain : List ℕ → Bool
 is_plain name = list_all is_plain_or_quote name && list_any is_name_byte name
 

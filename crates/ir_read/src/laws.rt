@@ -23,6 +23,8 @@ pub fn read_is_spelled()
 {}
 
 /// A text is refused exactly where it has a first fault: the tokens before it begin a module, and with it they don't.
+/// There is at most one, and the error goes by its class and is in its line. The tokens of a text with what ends it are
+/// such a text.
 pub fn error_is_of_first_fault()
     ensures first { (tokens : List Lexeme) (error : ModuleError) → IsText tokens → raw_module_of tokens ≡ Err error → IsErrorOf error tokens }
     ensures refused { (tokens : List Lexeme) (place : ℕ) → IsText tokens → IsFirstFault tokens place →

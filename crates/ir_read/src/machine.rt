@@ -128,6 +128,7 @@ impl Machine {
         matches!(self.mode, Mode::Free) && self.wants.is_empty()
     }
 
+    /// Where reading stands.
     pub fn mode(&self) -> Mode
         ensures { result ≡ self.now.mode }
     {

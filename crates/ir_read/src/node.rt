@@ -17,7 +17,9 @@ use std::marker::Model;
 pub struct Node<'s> {
     pub rule: Rule,
     pub terminal: Terminal,
+    /// The token's bytes, with sigil, quotes and colon.
     pub text: &'s [u8],
+    /// Its line, from 1.
     pub line: u32,
 }
 
@@ -44,7 +46,7 @@ impl<'s> Node<'s> {
         is_numbered(self.terminal, self.text)
     }
 
-    /// The number of a literal, modulo 2^64.
+    /// The number of a literal, modulo 2^64. None where it is a word or a string, or 2^64 or more without its sign.
     pub fn literal(&self) -> Option<u64>
         ensures { result ≡ literal_of self.now.text }
     {

@@ -13,7 +13,7 @@ pub fn fits_word(digits: &[u8]) -> bool
     number_of(digits).is_some()
 }
 
-/// The number that decimal digits write, if it is below 2^64.
+/// The number that decimal digits write, if it is below 2^64; 0 where there are none.
 pub fn number_of(digits: &[u8]) -> Option<u64>
     ensures { result ≡ spec.number_of digits.now }
 {

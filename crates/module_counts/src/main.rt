@@ -3,7 +3,9 @@
 //! usage: module_counts bytes|tokens|nodes FILE
 #![tactic(auto)]
 
-ghost use Rattle.std.specs.Prelude.{◌≡◌, ◌≤◌, length, IfOk};
+ghost use Rattle.std.specs.Prelude.{◌≡◌, ◌≤◌, length};
+ghost use Rattle.std.specs.Result.{result_map_both};
+ghost use Rattle.rc_base.specs.Failures.{Gives};
 ghost use Rattle.ir_lex.specs.Lexer.{tokens_of};
 ghost use Rattle.ir_read.specs.Text.{raw_module_in};
 
@@ -30,10 +32,10 @@ fn count_tokens(text: &[u8]) -> u64
     count
 }
 
-/// How many nodes are read of the text.
+/// How many nodes are read of the text, or the first fault.
 fn count_nodes(alloc: Global, text: &[u8]) -> Result<usize, Failure<ModuleError>>
     requires { length text.now ≤ MOST_BYTES }
-    ensures { IfOk result (λ count. IfOk (raw_module_in text.now) (λ nodes. count ≡ length nodes)) }
+    ensures { Gives (λ count. count) result (result_map_both length (λ error. error) (raw_module_in text.now)) }
 {
     let found = read_module(alloc, text)?;
     Ok(found.nodes.len())

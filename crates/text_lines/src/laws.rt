@@ -9,7 +9,8 @@ ghost use Rattle.text_lines.specs.ThreadRun.{AreLongest, expanded, shortest, thr
 ghost use Rattle.text_lines.specs.declared.run_word.RunWord.{RunWord as Word};
 ghost use Rattle.text_lines.specs.declared.thread_run.ThreadRun.{ThreadRun};
 
-/// The parts of a text, joined by the byte, are the text, and parts that are joined are the parts again.
+/// The parts of a text, joined by the byte, are the text; parts that lack the byte, at least one, are the parts again
+/// once joined.
 #[tactic(auto, using(crate::proofs::Joined::parts_joined, crate::proofs::Joined::text_joined))]
 pub fn parts_are_joined()
     ensures joined { (byte : ℕ) (text : List ℕ) → join_with_byte byte (parts_of byte text) ≡ text }
@@ -17,7 +18,8 @@ pub fn parts_are_joined()
         parts_of byte (join_with_byte byte (part ∷ parts)) ≡ part ∷ parts }
 {}
 
-/// Lines with their line feeds, before any text, are parts of it.
+/// Lines without line feeds inside, each with its line feed, before any text: the parts are these lines and then the
+/// text's own.
 #[tactic(auto, using(crate::proofs::Joined::lines_parted))]
 pub fn lines_are_parts()
     ensures { (lines : List (List ℕ)) (rest : List ℕ) → AllByRecursion (Lacks 10) lines →
@@ -31,7 +33,7 @@ pub fn numbers_are_decimal()
     ensures only { (number : ℕ) (word : List ℕ) → number < cut → number_of word ≡ Some number → word ≡ decimal number }
 {}
 
-/// A run that is spelled is read back, and the word of a run whose numbers are not cut is its spelling.
+/// A run whose numbers are not cut is read back from its spelling, and the word of such a run is its spelling.
 #[tactic(auto, using(crate::proofs::Spelled::run_again, crate::proofs::Spelled::run_is))]
 pub fn runs_are_spelled()
     ensures spelled { (run : Word) → IsUncut run → run_word_of (run_text run) ≡ Some run }

@@ -23,6 +23,7 @@ impl<'s> Model for Parts<'s> {
 }
 
 impl<'s> Parts<'s> {
+    /// The parts of a text.
     pub fn new(byte: u8, text: &'s [u8]) -> Parts<'s>
         ensures { result ≡ parts_of byte text.now }
     {

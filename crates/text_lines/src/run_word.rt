@@ -16,6 +16,7 @@ pub struct RunWord {
 }
 
 impl RunWord {
+    /// The run that the word spells, where it spells one.
     #[tactic(auto, unfolding(crate::specs::RunWord::run_word_of))]
     pub fn read(word: &[u8]) -> Option<RunWord>
         ensures { result ≡ run_word_of word.now }

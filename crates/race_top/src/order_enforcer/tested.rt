@@ -24,6 +24,7 @@ use std::sync::ledger::Ledger;
 pub enum Tested {
     /// The run goes on.
     Onward { course: Course, past: Past },
+    /// The run is over.
     Over(Run),
 }
 
