@@ -135,8 +135,9 @@ pub fn store_keeps_others()
     ensures bytes { StoreKeepsOtherBytes }
 {}
 
-/// Whether an instruction or a call traps or waits, what it costs, where it writes and where its thread goes on rest on
-/// its decided numbers alone. What registers, bytes and results hold has a part only in values.
+/// Whether an instruction that changes only its thread and the objects traps, what it costs, what it makes and ends and
+/// where its thread goes on, and whether a call traps or waits and what it costs, rest on its decided numbers alone. At
+/// which bytes and registers it writes, and where the caller of a call goes on, is not said.
 pub fn shapes_are_decided()
     ensures instructions { InstructionsHaveShapes }
     ensures calls { CallsHaveShapes }
