@@ -1,0 +1,106 @@
+; ModuleID = '<stdin>'
+source_filename = "published_flag.c"
+target datalayout = "e-m:e-p270:32:32-p271:32:32-p272:64:64-i64:64-f80:128-n8:16:32:64-S128"
+target triple = "x86_64-pc-linux-gnu"
+
+%struct.settings = type { i32, i32 }
+
+@.str = private unnamed_addr constant [4 x i8] c"%d\0A\00", align 1
+@ready = internal global i32 0, align 4
+@current = internal global ptr null, align 8
+@chosen = internal global %struct.settings zeroinitializer, align 4
+
+; Function Attrs: noinline nounwind uwtable
+define dso_local i32 @main() #0 {
+  %1 = alloca i64, align 8
+  %2 = alloca i64, align 8
+  %3 = alloca i32, align 4
+  store i32 0, ptr %3, align 4
+  %4 = call i32 @pthread_create(ptr noundef %2, ptr noundef null, ptr noundef @use, ptr noundef %3) #3
+  %5 = call i32 @pthread_create(ptr noundef %1, ptr noundef null, ptr noundef @publish, ptr noundef null) #3
+  %6 = load i64, ptr %1, align 8
+  %7 = call i32 @pthread_join(i64 noundef %6, ptr noundef null)
+  %8 = load i64, ptr %2, align 8
+  %9 = call i32 @pthread_join(i64 noundef %8, ptr noundef null)
+  %10 = load i32, ptr %3, align 4
+  %11 = call i32 (ptr, ...) @printf(ptr noundef @.str, i32 noundef %10)
+  ret i32 0
+}
+
+; Function Attrs: nounwind
+declare i32 @pthread_create(ptr noundef, ptr noundef, ptr noundef, ptr noundef) #1
+
+; Function Attrs: noinline nounwind uwtable
+define internal ptr @use(ptr noundef %0) #0 {
+  br label %2
+
+2:                                                ; preds = %14, %1
+  %.0 = phi i32 [ 0, %1 ], [ %7, %14 ]
+  %3 = load volatile i32, ptr @ready, align 4
+  %4 = icmp ne i32 %3, 0
+  %5 = xor i1 %4, true
+  br i1 %5, label %6, label %15
+
+6:                                                ; preds = %2
+  %7 = add nsw i32 %.0, 1
+  %8 = srem i32 %7, 4
+  %9 = icmp eq i32 %8, 0
+  br i1 %9, label %10, label %12
+
+10:                                               ; preds = %6
+  %11 = call i32 @usleep(i32 noundef 100)
+  br label %14
+
+12:                                               ; preds = %6
+  %13 = call i32 @sched_yield() #3
+  br label %14
+
+14:                                               ; preds = %12, %10
+  br label %2, !llvm.loop !6
+
+15:                                               ; preds = %2
+  %16 = load ptr, ptr @current, align 8
+  %17 = getelementptr inbounds %struct.settings, ptr %16, i32 0, i32 0
+  %18 = load i32, ptr %17, align 4
+  %19 = load ptr, ptr @current, align 8
+  %20 = getelementptr inbounds %struct.settings, ptr %19, i32 0, i32 1
+  %21 = load i32, ptr %20, align 4
+  %22 = mul nsw i32 %18, %21
+  store i32 %22, ptr %0, align 4
+  ret ptr null
+}
+
+; Function Attrs: noinline nounwind uwtable
+define internal ptr @publish(ptr noundef %0) #0 {
+  store i32 80, ptr @chosen, align 4
+  store volatile i32 1, ptr @ready, align 4
+  store ptr @chosen, ptr @current, align 8
+  store i32 25, ptr getelementptr inbounds (%struct.settings, ptr @chosen, i32 0, i32 1), align 4
+  ret ptr null
+}
+
+declare i32 @pthread_join(i64 noundef, ptr noundef) #2
+
+declare i32 @printf(ptr noundef, ...) #2
+
+declare i32 @usleep(i32 noundef) #2
+
+; Function Attrs: nounwind
+declare i32 @sched_yield() #1
+
+attributes #0 = { noinline nounwind uwtable "frame-pointer"="all" "min-legal-vector-width"="0" "no-trapping-math"="true" "stack-protector-buffer-size"="8" "target-cpu"="x86-64" "target-features"="+cx8,+fxsr,+mmx,+sse,+sse2,+x87" "tune-cpu"="generic" }
+attributes #1 = { nounwind "frame-pointer"="all" "no-trapping-math"="true" "stack-protector-buffer-size"="8" "target-cpu"="x86-64" "target-features"="+cx8,+fxsr,+mmx,+sse,+sse2,+x87" "tune-cpu"="generic" }
+attributes #2 = { "frame-pointer"="all" "no-trapping-math"="true" "stack-protector-buffer-size"="8" "target-cpu"="x86-64" "target-features"="+cx8,+fxsr,+mmx,+sse,+sse2,+x87" "tune-cpu"="generic" }
+attributes #3 = { nounwind }
+
+!llvm.module.flags = !{!0, !1, !2, !3, !4}
+!llvm.ident = !{!5}
+
+!0 = !{i32 1, !"wchar_size", i32 4}
+!1 = !{i32 8, !"PIC Level", i32 2}
+!2 = !{i32 7, !"PIE Level", i32 2}
+!3 = !{i32 7, !"uwtable", i32 2}
+!4 = !{i32 7, !"frame-pointer", i32 2}
+!5 = !{!"Debian clang version 16.0.6 (15~deb12u1)"}
+!6 = distinct !{!6, !7}
+!7 = !{!"llvm.loop.mustprogress"}
