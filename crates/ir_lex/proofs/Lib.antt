@@ -1,5 +1,7 @@
 pub mod Classes
+pub mod Extents
 pub mod Fronts
+pub mod Gaps
 pub mod Layouts
 pub mod Longest
 pub mod Positions

@@ -1,7 +1,8 @@
 -- The tokens from a spot on, step by step.
 use Rattle.std.proofs.Common.{◌≡◌, ◌≢◌, ℕ, zero, suc, ◌+◌, Bool, true, false, cond, ◌<◌, ◌-◌, List, [], ◌∷◌, length, take, drop, Some, None, refl, sym, ap, subst, ◌∙◌, add-one, arith}
+use Rattle.std.proofs.Math.Numerals.{one-add}
 use Rattle.std.specs.Prelude.{◌==◌}
-use Rattle.std.proofs.lemmas.Bool.{ne_eqb}
+use Rattle.std.proofs.lemmas.Bool.{ne_eqb, eqb-true}
 use Rattle.std.specs.List.{prefix_len}
 use Rattle.ir_lex.specs.declared.token.TokenKind.{TokenKind}
 use Rattle.ir_lex.specs.Bytes.{is_space, is_blank, is_in_line, is_name_byte}
@@ -28,17 +29,40 @@ pub past_blank : (first : ℕ) (rest : List ℕ) (spot : Spot) → is_blank firs
 unfolding tokens_after
 past_blank first rest spot blank = rw blank refl
 
--- a line feed, another blank, a comment or a skipped line
+-- a line feed, spaces, a comment or a skipped line
 pub past_feed : (bytes : List ℕ) (first : ℕ) (rest : List ℕ) (start line : ℕ) (fresh : Bool) → bytes ≡ first ∷ rest → first ≡ 10
     → tokens_after rest 0 (at (start + 1) (line + 1) true) ≡ tokens_after bytes 0 (at start line fresh)
 unfolding tokens_after
 past_feed bytes first rest start line fresh is feed = rw (is, feed) refl
 
-pub past_space : (bytes : List ℕ) (first : ℕ) (rest : List ℕ) (start line : ℕ) (fresh : Bool) → bytes ≡ first ∷ rest → first ≢ 10
-    → is_space first ≡ true → tokens_after rest 0 (at (start + 1) line fresh) ≡ tokens_after bytes 0 (at start line fresh)
+no_feed : (first : ℕ) → (first == 10) ≡ true → is_space first ≡ true → ⊥
+no_feed first feed space = let is : first ≡ 10 = eqb-true first 10 feed in cc
+
+past_space : (first : ℕ) (rest : List ℕ) (start line : ℕ) (fresh : Bool)
+    → is_space first ≡ true → tokens_after rest 0 (at (start + 1) line fresh) ≡ tokens_after (first ∷ rest) 0 (at start line fresh)
 unfolding tokens_after
-past_space bytes first rest start line fresh is no_feed space =
-    let other : (first == 10) ≡ false = ne_eqb first 10 no_feed in rw (is, space, other) refl
+past_space first rest start line fresh space =
+    elim (first == 10) as (λ b. (first == 10) ≡ b → tokens_after rest 0 (at (start + 1) line fresh) ≡ tokens_after (first ∷ rest) 0 (at start line fresh)) [
+      | true ↦ λ feed. absurd (no_feed first feed space)
+      | false ↦ λ other. rw (space, other) refl
+    ] refl
+
+spaces_passed : (rest : List ℕ) (start line : ℕ) (fresh : Bool)
+    → tokens_after (drop (prefix_len is_space rest) rest) 0 (at (start + prefix_len is_space rest) line fresh) ≡ tokens_after rest 0 (at start line fresh)
+spaces_passed [] start line fresh = let same : start + 0 ≡ start = omega arith in rw same refl
+spaces_passed (first ∷ rest) start line fresh =
+    elim (is_space first) as (λ b. is_space first ≡ b → tokens_after (drop (cond b (1 + prefix_len is_space rest) 0) (first ∷ rest)) 0 (at (start + cond b (1 + prefix_len is_space rest) 0) line fresh)
+    ≡ tokens_after (first ∷ rest) 0 (at start line fresh)) [
+      | true ↦ λ space.
+          let same : start + suc (prefix_len is_space rest) ≡ start + 1 + prefix_len is_space rest = omega arith in
+          rw (one-add (prefix_len is_space rest), same) (spaces_passed rest (start + 1) line fresh ∙ past_space first rest start line fresh space)
+      | false ↦ λ _. let same : start + 0 ≡ start = omega arith in rw same refl
+    ] refl
+
+pub past_spaces : (bytes : List ℕ) (first : ℕ) (rest : List ℕ) (start line : ℕ) (fresh : Bool) → bytes ≡ first ∷ rest → is_space first ≡ true
+    → tokens_after (drop (prefix_len is_space rest) rest) 0 (at (start + 1 + prefix_len is_space rest) line fresh) ≡ tokens_after bytes 0 (at start line fresh)
+past_spaces bytes first rest start line fresh is space =
+    rw is (spaces_passed rest (start + 1) line fresh ∙ past_space first rest start line fresh space)
 
 pub past_line : (bytes : List ℕ) (first : ℕ) (rest : List ℕ) (start line : ℕ) (fresh : Bool) → bytes ≡ first ∷ rest → first ≢ 10
     → is_space first ≡ false → passes_line first bytes fresh ≡ true
@@ -88,17 +112,3 @@ tokens_found bytes first rest start line fresh kind more is no_gap extent =
     let here : gap_of fresh first rest ≡ None = subst (BeginsNoGap fresh) is no_gap in
     let same : start + 1 + more ≡ start + suc more = omega arith in
     rw (is, add-one more, ← same) (tokens_found_first first rest start line fresh kind more here extent)
-
--- the run of plain bytes that is left behind a token
-pub run_less : (bytes : List ℕ) (passed : ℕ) → 0 < prefix_len is_name_byte bytes - passed
-    → prefix_len is_name_byte bytes - passed ≡ prefix_len is_name_byte (drop passed bytes)
-run_less [] passed some = absurd (omega arith)
-run_less (first ∷ rest) zero some = omega arith
-run_less (first ∷ rest) (suc passed) some =
-    elim (is_name_byte first) as (λ b. 0 < cond b (1 + prefix_len is_name_byte rest) 0 - suc passed
-    → cond b (1 + prefix_len is_name_byte rest) 0 - suc passed ≡ prefix_len is_name_byte (drop passed rest)) [
-      | true ↦ λ more.
-          let less : (1 + prefix_len is_name_byte rest) - suc passed ≡ prefix_len is_name_byte rest - passed = omega arith in
-          less ∙ run_less rest passed (omega arith)
-      | false ↦ λ none. absurd (omega arith)
-    ] some

@@ -1,11 +1,12 @@
 //! The classes of bytes in a module's text, and how many bytes of a class stand at the front.
 
-ghost use Rattle.std.specs.Prelude.{◌≡◌, ◌≤◌, length};
+ghost use Rattle.std.specs.Prelude.{◌≡◌, ◌≤◌, length, not, ◌&&◌, ◌==◌};
 ghost use Rattle.std.specs.Char.{is_ascii_digit};
 ghost use Rattle.std.specs.List.{prefix_len};
 ghost use Rattle.ir_lex.specs.Bytes.{is_space, is_mark, is_word_byte, is_name_byte, is_inside, is_in_line};
 
 /// Space, tab or carriage return.
+#[inline(always)]
 pub fn is_space(byte: u8) -> bool
     ensures { result ≡ is_space byte }
 {
@@ -18,10 +19,10 @@ const NAME: u8 = 2;
 
 const MARK: u8 = 4;
 
-// For each byte a digit, whose low three bits are the flags above.
+// For each byte a digit, whose low three bits are the flags above: of the marks all but `!`, which may begin metadata.
 static CLASSES: [u8; 256] = *b"\
     00000000000000000000000000000000\
-    04002000444042303333333333004440\
+    00002000444042303333333333004440\
     03333333333333333333333333340403\
     03333333333333333333333333344400\
     00000000000000000000000000000000\
@@ -29,14 +30,16 @@ static CLASSES: [u8; 256] = *b"\
     00000000000000000000000000000000\
     00000000000000000000000000000000";
 
-/// One of `= , * ( ) [ ] { } < > ! |`.
-pub fn is_mark(byte: u8) -> bool
-    ensures { result ≡ is_mark byte }
+/// One of `= , * ( ) [ ] { } < > |`, the marks with which no longer token begins.
+#[inline(always)]
+pub fn is_lone_mark(byte: u8) -> bool
+    ensures { result ≡ is_mark byte && not (byte == 33) }
 {
     CLASSES[byte as usize] & MARK != 0
 }
 
 /// A letter, a digit, `_` or `.`.
+#[inline(always)]
 pub fn is_word_byte(byte: u8) -> bool
     ensures { result ≡ is_word_byte byte }
 {
@@ -44,12 +47,14 @@ pub fn is_word_byte(byte: u8) -> bool
 }
 
 /// A letter, a digit, `_`, `.`, `$` or `-`.
+#[inline(always)]
 pub fn is_name_byte(byte: u8) -> bool
     ensures { result ≡ is_name_byte byte }
 {
     CLASSES[byte as usize] & NAME != 0
 }
 
+#[inline(always)]
 pub fn space_len(bytes: &[u8]) -> usize
     ensures value { result ≡ prefix_len is_space bytes.now }
     ensures within { result ≤ length bytes.now }
@@ -57,6 +62,7 @@ pub fn space_len(bytes: &[u8]) -> usize
     bytes.iter().take_while(|byte| is_space(**byte)).count()
 }
 
+#[inline(always)]
 pub fn digit_len(bytes: &[u8]) -> usize
     ensures value { result ≡ prefix_len is_ascii_digit bytes.now }
     ensures within { result ≤ length bytes.now }
@@ -67,6 +73,7 @@ pub fn digit_len(bytes: &[u8]) -> usize
         .count()
 }
 
+#[inline(always)]
 pub fn word_len(bytes: &[u8]) -> usize
     ensures value { result ≡ prefix_len is_word_byte bytes.now }
     ensures within { result ≤ length bytes.now }
@@ -74,6 +81,7 @@ pub fn word_len(bytes: &[u8]) -> usize
     bytes.iter().take_while(|byte| is_word_byte(**byte)).count()
 }
 
+#[inline(always)]
 pub fn plain_len(bytes: &[u8]) -> usize
     ensures value { result ≡ prefix_len is_name_byte bytes.now }
     ensures within { result ≤ length bytes.now }
@@ -82,6 +90,7 @@ pub fn plain_len(bytes: &[u8]) -> usize
 }
 
 /// How many bytes stand before a quote or the line's end.
+#[inline(always)]
 pub fn inside_len(bytes: &[u8]) -> usize
     ensures value { result ≡ prefix_len is_inside bytes.now }
     ensures within { result ≤ length bytes.now }
@@ -93,6 +102,7 @@ pub fn inside_len(bytes: &[u8]) -> usize
 }
 
 /// How many bytes stand before the line's end.
+#[inline(always)]
 pub fn line_len(bytes: &[u8]) -> usize
     ensures value { result ≡ prefix_len is_in_line bytes.now }
     ensures within { result ≤ length bytes.now }

@@ -1,57 +1,125 @@
 //! The kind and the length of the longest token at a place.
 
-ghost use Rattle.std.specs.Prelude.{◌≡◌, ◌+◌, ◌<◌, ◌≤◌, ◌∷◌, length, slice_index, ◌==◌, IfSome, IsTrue};
+ghost use Rattle.std.specs.Prelude.{◌≡◌, ◌+◌, ◌<◌, ◌≤◌, ◌∷◌, not, ◌&&◌, ◌==◌, length, drop, slice_index, true, false, None, Some, IfSome, IsTrue, MatchOption};
 ghost use Rattle.std.specs.List.{prefix_len};
-ghost use Rattle.ir_lex.specs.Bytes.{is_name_byte};
+ghost use Rattle.ir_lex.specs.Bytes.{is_mark, is_name_byte};
 ghost use Rattle.ir_lex.specs.Extent.{closed_len, quoted_len, name_len, with_more, plain_extent, unlabelled_extent, c_extent, quote_extent, bang_extent, extent_of};
 
-use crate::bytes::{digit_len, inside_len, is_mark, is_name_byte, plain_len, word_len};
+use crate::bytes::{digit_len, inside_len, is_lone_mark, is_name_byte, plain_len, word_len};
 use crate::token::TokenKind;
 
-/// The kind of the longest token that begins with `first`, and how many bytes of `rest` belong to it; none where no
-/// token begins so. `run` is the number of bytes of plain names at the front, `first` among them.
+/// The longest token that begins with some byte.
+#[derive(Clone, Copy)]
+pub struct Found {
+    pub kind: TokenKind,
+    /// How many bytes behind that one belong to it.
+    pub more: usize,
+    /// How many bytes of a plain name stand behind it, or 0 where that isn't known.
+    pub run: usize,
+}
+
+/// The longest token that begins with `first`; none where no token begins so. `known` is the number of bytes of a plain
+/// name at the front, `first` among them, or 0 where that isn't known.
+#[inline(always)]
+#[tactic(auto, unfolding(crate::specs::Extent::extent_of), using(crate::proofs::Extents::name_extent, crate::proofs::Extents::mark_extent))]
+pub fn extent(first: u8, rest: &[u8], known: usize) -> Option<Found>
+    requires { 0 < known → known ≡ prefix_len is_name_byte (first ∷ rest.now) }
+    ensures value { MatchOption result (None ≡ extent_of first rest.now) (λ found. Some (found.kind, found.more) ≡ extent_of first rest.now) }
+    ensures within { IfSome result (λ found. found.more ≤ length rest.now) }
+    ensures run { IfSome result (λ found. 0 < found.run → found.run ≡ prefix_len is_name_byte (drop found.more rest.now)) }
+{
+    if is_name_byte(first) {
+        return plain_extent(first, rest, known);
+    }
+    let (kind, more) = if is_lone_mark(first) {
+        (TokenKind::Mark, 0)
+    } else {
+        sigil_extent(first, rest)?
+    };
+    Some(Found { kind, more, run: 0 })
+}
+
+/// What a byte begins that is in no plain name, and no mark but `!`.
+#[inline(always)]
 #[tactic(auto, unfolding(crate::specs::Extent::extent_of))]
-pub fn extent(first: u8, rest: &[u8], run: usize) -> Option<(TokenKind, usize)>
-    requires { run ≡ prefix_len is_name_byte (first ∷ rest.now) }
+fn sigil_extent(first: u8, rest: &[u8]) -> Option<(TokenKind, usize)>
+    requires no_name { is_name_byte first ≡ false }
+    requires no_mark { (is_mark first && not (first == 33)) ≡ false }
     ensures value { result ≡ extent_of first rest.now }
     ensures within { IfSome result (λ found. found.1 ≤ length rest.now) }
 {
     match first {
-        _ if is_name_byte(first) => plain_extent(first, rest, run - 1),
-        b'"' => quote_extent(rest),
         b'%' => with_more(TokenKind::Local, name_len(rest)),
         b'@' => with_more(TokenKind::Global, name_len(rest)),
+        b'"' => quote_extent(rest),
         b'!' => bang_extent(rest),
         b'#' => with_more(TokenKind::Meta, digit_len(rest)),
-        _ if is_mark(first) => Some((TokenKind::Mark, 0)),
         _ => None,
     }
 }
 
-/// What a byte of a plain name begins, of which so many bytes follow.
-fn plain_extent(first: u8, rest: &[u8], run: usize) -> Option<(TokenKind, usize)>
-    requires { run ≡ prefix_len is_name_byte rest.now }
-    ensures value { result ≡ plain_extent first rest.now }
-    ensures within { IfSome result (λ found. found.1 ≤ length rest.now) }
+/// What a byte of a plain name begins.
+#[inline(always)]
+#[tactic(auto, using(crate::proofs::Extents::run_behind, crate::proofs::Extents::run_within))]
+fn plain_extent(first: u8, rest: &[u8], known: usize) -> Option<Found>
+    requires name { is_name_byte first ≡ true }
+    requires known { 0 < known → known ≡ prefix_len is_name_byte (first ∷ rest.now) }
+    ensures value { MatchOption result (None ≡ plain_extent first rest.now) (λ found. Some (found.kind, found.more) ≡ plain_extent first rest.now) }
+    ensures within { IfSome result (λ found. found.more ≤ length rest.now) }
+    ensures run { IfSome result (λ found. 0 < found.run → found.run ≡ prefix_len is_name_byte (drop found.more rest.now)) }
 {
-    if is_at(rest, run, b':') {
-        Some((TokenKind::Label, run + 1))
-    } else {
-        unlabelled_extent(first, rest)
+    if first == b'c' && is_at(rest, 0, b'"') {
+        let (kind, more) = c_extent(rest);
+        return Some(Found { kind, more, run: 0 });
     }
+    let unlabelled = unlabelled_extent(first, rest);
+    let passed = match unlabelled {
+        Some((_, more)) => more,
+        None => 0,
+    };
+    let run = run_len(rest, passed, known);
+    if is_at(rest, run, b':') {
+        return Some(Found {
+            kind: TokenKind::Label,
+            more: run + 1,
+            run: 0,
+        });
+    }
+    let (kind, more) = unlabelled?;
+    Some(Found {
+        kind,
+        more,
+        run: run - more,
+    })
 }
 
-/// What a byte of a plain name begins that is no label.
-fn unlabelled_extent(first: u8, rest: &[u8]) -> Option<(TokenKind, usize)>
-    ensures value { result ≡ unlabelled_extent first rest.now }
-    ensures within { IfSome result (λ found. found.1 ≤ length rest.now) }
+/// How many bytes of a plain name stand at the front, of which some were passed.
+#[inline(always)]
+#[tactic(auto, using(crate::proofs::Extents::run_from, crate::proofs::Extents::run_within))]
+fn run_len(rest: &[u8], passed: usize, known: usize) -> usize
+    requires passed { passed ≤ prefix_len is_name_byte rest.now }
+    requires known { 0 < known → known ≡ 1 + prefix_len is_name_byte rest.now }
+    ensures value { result ≡ prefix_len is_name_byte rest.now }
 {
-    if first.is_ascii_digit() {
-        Some((TokenKind::Number, digit_len(rest)))
-    } else if first == b'c' {
-        Some(c_extent(rest))
-    } else if first.is_ascii_alphabetic() {
+    if known > 0 {
+        return known - 1;
+    }
+    let (_, behind) = rest.split_at(passed);
+    passed + plain_len(behind)
+}
+
+/// What a byte of a plain name begins that is no label, where no quoted text follows a `c`.
+#[inline(always)]
+#[tactic(auto, using(crate::proofs::Extents::digits_in_name, crate::proofs::Extents::word_in_name))]
+fn unlabelled_extent(first: u8, rest: &[u8]) -> Option<(TokenKind, usize)>
+    requires no_text { (first == 99 && slice_index rest.now 0 == 34) ≡ false }
+    ensures value { result ≡ unlabelled_extent first rest.now }
+    ensures within { IfSome result (λ found. found.1 ≤ prefix_len is_name_byte rest.now) }
+{
+    if first.is_ascii_alphabetic() {
         Some((TokenKind::Word, word_len(rest)))
+    } else if first.is_ascii_digit() {
+        Some((TokenKind::Number, digit_len(rest)))
     } else if first == b'-' {
         with_more(TokenKind::Number, digit_len(rest))
     } else if first == b'.' && is_at(rest, 0, b'.') && is_at(rest, 1, b'.') {
@@ -62,6 +130,7 @@ fn unlabelled_extent(first: u8, rest: &[u8]) -> Option<(TokenKind, usize)>
 }
 
 /// What `c` begins that is no label.
+#[inline(always)]
 fn c_extent(rest: &[u8]) -> (TokenKind, usize)
     ensures value { result ≡ c_extent rest.now }
     ensures within { result.1 ≤ length rest.now }
@@ -75,6 +144,7 @@ fn c_extent(rest: &[u8]) -> (TokenKind, usize)
 }
 
 /// What a quote begins.
+#[inline(always)]
 fn quote_extent(rest: &[u8]) -> Option<(TokenKind, usize)>
     ensures value { result ≡ quote_extent rest.now }
     ensures within { IfSome result (λ found. found.1 ≤ length rest.now) }
@@ -90,6 +160,7 @@ fn quote_extent(rest: &[u8]) -> Option<(TokenKind, usize)>
 }
 
 /// What `!` begins.
+#[inline(always)]
 fn bang_extent(rest: &[u8]) -> Option<(TokenKind, usize)>
     ensures value { result ≡ bang_extent rest.now }
     ensures within { IfSome result (λ found. found.1 ≤ length rest.now) }
@@ -103,6 +174,7 @@ fn bang_extent(rest: &[u8]) -> Option<(TokenKind, usize)>
 }
 
 /// A token of a first byte and of so many more, of which there have to be some.
+#[inline(always)]
 fn with_more(kind: TokenKind, more: usize) -> Option<(TokenKind, usize)>
     ensures value { result ≡ with_more kind more }
     ensures within { IfSome result (λ found. found.1 ≡ more) }
@@ -111,6 +183,7 @@ fn with_more(kind: TokenKind, more: usize) -> Option<(TokenKind, usize)>
 }
 
 /// The length of the name at the front, quoted or plain; 0 where there is none.
+#[inline(always)]
 fn name_len(bytes: &[u8]) -> usize
     ensures value { result ≡ name_len bytes.now }
     ensures within { result ≤ length bytes.now }
@@ -124,6 +197,7 @@ fn name_len(bytes: &[u8]) -> usize
 }
 
 /// The length of the quoted text at the front, with its quotes; 0 where there is none.
+#[inline(always)]
 fn quoted_len(bytes: &[u8]) -> usize
     ensures value { result ≡ quoted_len bytes.now }
     ensures within { result ≤ length bytes.now }
@@ -138,6 +212,7 @@ fn quoted_len(bytes: &[u8]) -> usize
 }
 
 /// The length of a quoted text after its first quote, with the last one; 0 where it isn't closed on its line.
+#[inline(always)]
 fn closed_len(rest: &[u8]) -> usize
     ensures value { result ≡ closed_len rest.now }
     ensures within { result ≤ length rest.now }
@@ -151,6 +226,7 @@ fn closed_len(rest: &[u8]) -> usize
 }
 
 /// Whether the byte stands at the index.
+#[inline(always)]
 fn is_at(bytes: &[u8], index: usize, byte: u8) -> bool
     requires { 0 < byte }
     ensures value { result ≡ (slice_index bytes.now index == byte) }

@@ -1,31 +1,30 @@
 //! What lies between tokens besides blanks and comments: lines that are skipped whole.
 
 ghost use Rattle.std.specs.Prelude.{◌≡◌};
-ghost use Rattle.ir_lex.specs.Gap.{begins_with, is_debug_line, is_heading, is_marker, is_skipped};
+ghost use Rattle.ir_lex.specs.Gap.{begins_with, is_debug_line, is_marker, is_skipped};
 
 use crate::bytes::space_len;
 
 /// Whether a line that begins so, after blanks, is skipped whole: it has to do with debugging, metadata or the
 /// target, and with nothing that a module does.
-#[tactic(auto, unfolding(crate::specs::Gap::is_skipped))]
+#[inline(always)]
+#[tactic(auto, using(crate::proofs::Gaps::skipped_never, crate::proofs::Gaps::skipped_end))]
 pub fn is_skipped(bytes: &[u8]) -> bool
     ensures { result ≡ is_skipped bytes.now }
 {
-    is_heading(bytes)
-        || is_debug_line(bytes, b"call void")
-        || is_debug_line(bytes, b"tail call void")
-        || is_debug_line(bytes, b"declare void")
-}
-
-#[tactic(auto, unfolding(crate::specs::Gap::is_heading))]
-fn is_heading(bytes: &[u8]) -> bool
-    ensures { result ≡ is_heading bytes.now }
-{
-    begins_with(bytes, b"source_filename")
-        || begins_with(bytes, b"target")
-        || begins_with(bytes, b"attributes")
-        || begins_with(bytes, b"!")
-        || begins_with(bytes, b"#dbg_")
+    let Some((first, _)) = bytes.split_first() else {
+        return false;
+    };
+    match *first {
+        b'!' => true,
+        b's' => begins_with(bytes, b"source_filename"),
+        b't' => begins_with(bytes, b"target") || is_debug_line(bytes, b"tail call void"),
+        b'a' => begins_with(bytes, b"attributes"),
+        b'#' => begins_with(bytes, b"#dbg_"),
+        b'c' => is_debug_line(bytes, b"call void"),
+        b'd' => is_debug_line(bytes, b"declare void"),
+        _ => false,
+    }
 }
 
 /// Whether the words stand at the front, and then, after blanks or none, a name of a debugging or lifetime marker.

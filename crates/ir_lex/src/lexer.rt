@@ -28,6 +28,7 @@ impl<'s> Model for Lexer<'s> {
 
 impl<'s> Lexer<'s> {
     /// A lexer at the front of the text.
+    #[inline(always)]
     pub fn new(text: &'s [u8]) -> Lexer<'s>
         requires { length text.now ≤ MOST_BYTES }
         ensures { result ≡ tokens_of text.now }
@@ -44,6 +45,7 @@ impl<'s> Lexer<'s> {
     }
 
     /// The next token; none at the end, and again after it. Where no token begins the lexer stays there.
+    #[inline(always)]
     pub fn next(&mut self) -> Result<Option<Token<'s>>, LexError>
         ensures given { MatchResult result (λ next. MatchOption next (self.old ≡ ended) (λ token. self.old ≡ ahead token self.new)) (λ error. self.old ≡ failed error) }
         ensures answer { result ≡ answer_of self.old }

@@ -5,7 +5,7 @@ ghost use Rattle.std.specs.List.{prefix_len};
 ghost use Rattle.ir_lex.specs.Bytes.{is_name_byte, is_space};
 ghost use Rattle.ir_lex.specs.Lexer.{passes_line};
 
-use crate::bytes::{is_name_byte, is_space, line_len, plain_len};
+use crate::bytes::{is_space, line_len, space_len};
 use crate::extent::extent;
 use crate::gap::is_skipped;
 use crate::token::{LexError, Token};
@@ -32,6 +32,7 @@ impl<'s> Place<'s> {
     ghost use Rattle.ir_lex.specs.Place.{lexed_from, ending_of, IsAtToken};
 
     /// The place behind blanks, comments and skipped lines.
+    #[inline(always)]
     pub fn past_gap(self) -> Place<'s>
         ensures same { lexed_from result ≡ lexed_from self.entry }
         ensures at_token { IsAtToken result }
@@ -44,7 +45,8 @@ impl<'s> Place<'s> {
     }
 
     /// The place behind a blank, a comment or a skipped line; none where another byte stands, or none.
-    #[tactic(auto, using(crate::proofs::Tokens::past_feed, crate::proofs::Tokens::past_space))]
+    #[inline(always)]
+    #[tactic(auto, using(crate::proofs::Tokens::past_feed))]
     fn past_one(self) -> Option<Place<'s>>
         ensures same { MatchOption result (IsAtToken self.entry) (λ next. lexed_from next ≡ lexed_from self.entry) }
         ensures shorter { IfSome result (λ next. length next.rest.now < length self.entry.rest.now) }
@@ -60,13 +62,7 @@ impl<'s> Place<'s> {
             });
         }
         if is_space(*first) {
-            return Some(Place {
-                rest,
-                start: self.start + 1,
-                line: self.line,
-                fresh: self.fresh,
-                run: 0,
-            });
+            return Some(self.past_spaces(*first, rest));
         }
         if *first == b';' {
             return Some(self.past_line(*first, rest));
@@ -77,7 +73,28 @@ impl<'s> Place<'s> {
         None
     }
 
+    /// The place behind the spaces that begin here, with these bytes.
+    #[inline(always)]
+    #[tactic(auto, using(crate::proofs::Tokens::past_spaces))]
+    fn past_spaces(self, first: u8, rest: &'s [u8]) -> Place<'s>
+        requires here { self.rest.now ≡ first ∷ rest.now }
+        requires space { is_space first ≡ true }
+        ensures same { lexed_from result ≡ lexed_from self.entry }
+        ensures shorter { length result.rest.now < length self.entry.rest.now }
+    {
+        let space_len = space_len(rest);
+        let (_, rest) = rest.split_at(space_len);
+        Place {
+            rest,
+            start: self.start + 1 + space_len as u32,
+            line: self.line,
+            fresh: self.fresh,
+            run: 0,
+        }
+    }
+
     /// The place behind the line that begins here, with these bytes.
+    #[inline(always)]
     #[tactic(auto, using(crate::proofs::Tokens::past_line))]
     fn past_line(self, first: u8, rest: &'s [u8]) -> Place<'s>
         requires here { self.rest.now ≡ first ∷ rest.now }
@@ -99,32 +116,33 @@ impl<'s> Place<'s> {
     }
 
     /// The token here and the place behind it; none where no token begins, and at the end.
-    #[tactic(auto, using(crate::proofs::Tokens::tokens_end, crate::proofs::Tokens::tokens_fault, crate::proofs::Tokens::tokens_found, crate::proofs::Tokens::run_less))]
+    #[inline(always)]
+    #[tactic(auto, using(crate::proofs::Tokens::tokens_end, crate::proofs::Tokens::tokens_fault, crate::proofs::Tokens::tokens_found))]
     pub fn token(self) -> Option<(Token<'s>, Place<'s>)>
         requires { IsAtToken self }
         ensures { MatchOption result (lexed_from self.entry ≡ ending_of self.entry) (λ found. lexed_from self.entry ≡ ahead found.0 (lexed_from found.1)) }
     {
         let (first, rest) = self.rest.split_first()?;
-        let run = run_len(*first, rest, self.run);
-        let (kind, more) = extent(*first, rest, run)?;
-        let (text, rest) = self.rest.split_at(more + 1);
+        let found = extent(*first, rest, self.run)?;
+        let (text, rest) = self.rest.split_at(found.more + 1);
         let token = Token {
-            kind,
+            kind: found.kind,
             text,
             start: self.start,
             line: self.line,
         };
         let place = Place {
             rest,
-            start: self.start + (more + 1) as u32,
+            start: self.start + (found.more + 1) as u32,
             line: self.line,
             fresh: false,
-            run: run.saturating_sub(more + 1),
+            run: found.run,
         };
         Some((token, place))
     }
 
     /// What is answered where no token begins.
+    #[inline(always)]
     pub fn ending(self) -> Result<Option<Token<'s>>, LexError>
         ensures { result ≡ answer_of (ending_of self.entry) }
     {
@@ -135,19 +153,5 @@ impl<'s> Place<'s> {
                 at: self.start,
             }),
         }
-    }
-}
-
-/// The number of bytes of plain names at the front, `first` among them, which isn't counted again where it is known.
-fn run_len(first: u8, rest: &[u8], known: usize) -> usize
-    requires { 0 < known → known ≡ prefix_len is_name_byte (first ∷ rest.now) }
-    ensures { result ≡ prefix_len is_name_byte (first ∷ rest.now) }
-{
-    if known > 0 {
-        known
-    } else if is_name_byte(first) {
-        plain_len(rest) + 1
-    } else {
-        0
     }
 }
