@@ -5,30 +5,32 @@ ghost use Rattle.std.specs.Char.{is_ascii_digit};
 ghost use Rattle.std.specs.List.{prefix_len};
 ghost use Rattle.ir_lex.specs.Bytes.{is_space, is_mark, is_word_byte, is_name_byte, is_inside, is_in_line};
 
-/// Space, tab or carriage return.
-#[inline(always)]
-pub fn is_space(byte: u8) -> bool
-    ensures { result ≡ is_space byte }
-{
-    byte == b' ' || byte == b'\t' || byte == b'\r'
-}
-
 const WORD: u8 = 1;
 
 const NAME: u8 = 2;
 
 const MARK: u8 = 4;
 
-// For each byte a digit, whose low three bits are the flags above: of the marks all but `!`, which may begin metadata.
+const SPACE: u8 = 8;
+
+// For each byte a digit, whose low four bits are the flags above: of the marks all but `!`, which may begin metadata.
 static CLASSES: [u8; 256] = *b"\
-    00000000000000000000000000000000\
-    00002000444042303333333333004440\
+    00000000080008000000000000000000\
+    80002000444042303333333333004440\
     03333333333333333333333333340403\
     03333333333333333333333333344400\
     00000000000000000000000000000000\
     00000000000000000000000000000000\
     00000000000000000000000000000000\
     00000000000000000000000000000000";
+
+/// Space, tab or carriage return.
+#[inline(always)]
+pub fn is_space(byte: u8) -> bool
+    ensures { result ≡ is_space byte }
+{
+    CLASSES[byte as usize] & SPACE != 0
+}
 
 /// One of `= , * ( ) [ ] { } < > |`, the marks with which no longer token begins.
 #[inline(always)]

@@ -105,7 +105,23 @@ fn run_len(rest: &[u8], passed: usize, known: usize) -> usize
         return known - 1;
     }
     let (_, behind) = rest.split_at(passed);
-    passed + plain_len(behind)
+    passed + rest_len(behind)
+}
+
+/// How many bytes of a plain name stand at the front, where there is seldom one: the loop waits for the first.
+#[inline(always)]
+fn rest_len(bytes: &[u8]) -> usize
+    ensures value { result ≡ prefix_len is_name_byte bytes.now }
+    ensures within { result ≤ length bytes.now }
+{
+    let Some((first, rest)) = bytes.split_first() else {
+        return 0;
+    };
+    if is_name_byte(*first) {
+        plain_len(rest) + 1
+    } else {
+        0
+    }
 }
 
 /// What a byte of a plain name begins that is no label, where no quoted text follows a `c`.

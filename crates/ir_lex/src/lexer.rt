@@ -54,10 +54,12 @@ impl<'s> Lexer<'s> {
     {
         let place = self.place.past_gap();
         self.place = place;
-        if let Some((token, after)) = place.token() {
-            self.place = after;
-            return Ok(Some(token));
+        match place.token() {
+            Some((token, after)) => {
+                self.place = after;
+                Ok(Some(token))
+            }
+            None => place.ending(),
         }
-        place.ending()
     }
 }
