@@ -1,14 +1,14 @@
 -- The tokens from a spot on, step by step.
 use Rattle.std.proofs.Common.{◌≡◌, ◌≢◌, ℕ, zero, suc, ◌+◌, Bool, true, false, cond, ◌<◌, ◌-◌, List, [], ◌∷◌, length, take, drop, Some, None, refl, sym, ap, subst, ◌∙◌, add-one, arith}
-use Rattle.std.proofs.Math.Numerals.{one-add}
 use Rattle.std.specs.Prelude.{◌==◌}
-use Rattle.std.proofs.lemmas.Bool.{ne_eqb, eqb-true}
+use Rattle.std.proofs.lemmas.Bool.{ne_eqb}
 use Rattle.std.specs.List.{prefix_len}
 use Rattle.ir_lex.specs.declared.token.TokenKind.{TokenKind}
 use Rattle.ir_lex.specs.Bytes.{is_space, is_blank, is_in_line, is_name_byte}
 use Rattle.ir_lex.specs.Extent.{extent_of}
 use Rattle.ir_lex.specs.Lexer.{Spot, ended, ahead, failed, past, gap_of, passes_line, tokens_after}
 use Rattle.ir_lex.specs.Place.{BeginsNoGap}
+use Rattle.ir_lex.proofs.Longest.{apart}
 
 abbrev pub at : ℕ → ℕ → Bool → Spot
 at start line fresh = record { start = start; line = line; fresh = fresh }
@@ -29,40 +29,19 @@ pub past_blank : (first : ℕ) (rest : List ℕ) (spot : Spot) → is_blank firs
 unfolding tokens_after
 past_blank first rest spot blank = rw blank refl
 
--- a line feed, spaces, a comment or a skipped line
+-- a line feed, another blank, a comment or a skipped line
 pub past_feed : (bytes : List ℕ) (first : ℕ) (rest : List ℕ) (start line : ℕ) (fresh : Bool) → bytes ≡ first ∷ rest → first ≡ 10
     → tokens_after rest 0 (at (start + 1) (line + 1) true) ≡ tokens_after bytes 0 (at start line fresh)
 unfolding tokens_after
 past_feed bytes first rest start line fresh is feed = rw (is, feed) refl
 
-no_feed : (first : ℕ) → (first == 10) ≡ true → is_space first ≡ true → ⊥
-no_feed first feed space = let is : first ≡ 10 = eqb-true first 10 feed in cc
+no_feed : (byte : ℕ) → is_space byte ≡ true → (byte == 10) ≡ false
+no_feed byte space = apart is_space byte 10 space refl
 
-past_space : (first : ℕ) (rest : List ℕ) (start line : ℕ) (fresh : Bool)
-    → is_space first ≡ true → tokens_after rest 0 (at (start + 1) line fresh) ≡ tokens_after (first ∷ rest) 0 (at start line fresh)
+pub past_space : (bytes : List ℕ) (first : ℕ) (rest : List ℕ) (start line : ℕ) (fresh : Bool) → bytes ≡ first ∷ rest
+    → is_space first ≡ true → tokens_after rest 0 (at (start + 1) line fresh) ≡ tokens_after bytes 0 (at start line fresh)
 unfolding tokens_after
-past_space first rest start line fresh space =
-    elim (first == 10) as (λ b. (first == 10) ≡ b → tokens_after rest 0 (at (start + 1) line fresh) ≡ tokens_after (first ∷ rest) 0 (at start line fresh)) [
-      | true ↦ λ feed. absurd (no_feed first feed space)
-      | false ↦ λ other. rw (space, other) refl
-    ] refl
-
-spaces_passed : (rest : List ℕ) (start line : ℕ) (fresh : Bool)
-    → tokens_after (drop (prefix_len is_space rest) rest) 0 (at (start + prefix_len is_space rest) line fresh) ≡ tokens_after rest 0 (at start line fresh)
-spaces_passed [] start line fresh = let same : start + 0 ≡ start = omega arith in rw same refl
-spaces_passed (first ∷ rest) start line fresh =
-    elim (is_space first) as (λ b. is_space first ≡ b → tokens_after (drop (cond b (1 + prefix_len is_space rest) 0) (first ∷ rest)) 0 (at (start + cond b (1 + prefix_len is_space rest) 0) line fresh)
-    ≡ tokens_after (first ∷ rest) 0 (at start line fresh)) [
-      | true ↦ λ space.
-          let same : start + suc (prefix_len is_space rest) ≡ start + 1 + prefix_len is_space rest = omega arith in
-          rw (one-add (prefix_len is_space rest), same) (spaces_passed rest (start + 1) line fresh ∙ past_space first rest start line fresh space)
-      | false ↦ λ _. let same : start + 0 ≡ start = omega arith in rw same refl
-    ] refl
-
-pub past_spaces : (bytes : List ℕ) (first : ℕ) (rest : List ℕ) (start line : ℕ) (fresh : Bool) → bytes ≡ first ∷ rest → is_space first ≡ true
-    → tokens_after (drop (prefix_len is_space rest) rest) 0 (at (start + 1 + prefix_len is_space rest) line fresh) ≡ tokens_after bytes 0 (at start line fresh)
-past_spaces bytes first rest start line fresh is space =
-    rw is (spaces_passed rest (start + 1) line fresh ∙ past_space first rest start line fresh space)
+past_space bytes first rest start line fresh is space = rw (is, space, no_feed first space) refl
 
 pub past_line : (bytes : List ℕ) (first : ℕ) (rest : List ℕ) (start line : ℕ) (fresh : Bool) → bytes ≡ first ∷ rest → first ≢ 10
     → is_space first ≡ false → passes_line first bytes fresh ≡ true

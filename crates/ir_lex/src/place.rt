@@ -5,7 +5,7 @@ ghost use Rattle.std.specs.List.{prefix_len};
 ghost use Rattle.ir_lex.specs.Bytes.{is_name_byte, is_space};
 ghost use Rattle.ir_lex.specs.Lexer.{passes_line};
 
-use crate::bytes::{is_space, line_len, space_len};
+use crate::bytes::{is_space, line_len};
 use crate::extent::extent;
 use crate::gap::is_skipped;
 use crate::token::{LexError, Token};
@@ -46,12 +46,21 @@ impl<'s> Place<'s> {
 
     /// The place behind a blank, a comment or a skipped line; none where another byte stands, or none.
     #[inline(always)]
-    #[tactic(auto, using(crate::proofs::Tokens::past_feed))]
+    #[tactic(auto, using(crate::proofs::Tokens::past_feed, crate::proofs::Tokens::past_space))]
     fn past_one(self) -> Option<Place<'s>>
         ensures same { MatchOption result (IsAtToken self.entry) (λ next. lexed_from next ≡ lexed_from self.entry) }
         ensures shorter { IfSome result (λ next. length next.rest.now < length self.entry.rest.now) }
     {
         let (first, rest) = self.rest.split_first()?;
+        if is_space(*first) {
+            return Some(Place {
+                rest,
+                start: self.start + 1,
+                line: self.line,
+                fresh: self.fresh,
+                run: 0,
+            });
+        }
         if *first == b'\n' {
             return Some(Place {
                 rest,
@@ -61,9 +70,6 @@ impl<'s> Place<'s> {
                 run: 0,
             });
         }
-        if is_space(*first) {
-            return Some(self.past_spaces(*first, rest));
-        }
         if *first == b';' {
             return Some(self.past_line(*first, rest));
         }
@@ -71,26 +77,6 @@ impl<'s> Place<'s> {
             return Some(self.past_line(*first, rest));
         }
         None
-    }
-
-    /// The place behind the spaces that begin here, with these bytes.
-    #[inline(always)]
-    #[tactic(auto, using(crate::proofs::Tokens::past_spaces))]
-    fn past_spaces(self, first: u8, rest: &'s [u8]) -> Place<'s>
-        requires here { self.rest.now ≡ first ∷ rest.now }
-        requires space { is_space first ≡ true }
-        ensures same { lexed_from result ≡ lexed_from self.entry }
-        ensures shorter { length result.rest.now < length self.entry.rest.now }
-    {
-        let space_len = space_len(rest);
-        let (_, rest) = rest.split_at(space_len);
-        Place {
-            rest,
-            start: self.start + 1 + space_len as u32,
-            line: self.line,
-            fresh: self.fresh,
-            run: 0,
-        }
     }
 
     /// The place behind the line that begins here, with these bytes.
