@@ -1,8 +1,8 @@
 -- Which lines may be skipped whole, by their first byte.
 use Rattle.std.proofs.Common.{◌≡◌, ◌≢◌, ℕ, Bool, true, false, List, [], ◌∷◌, refl, sym, codes, length}
-use Rattle.std.specs.Prelude.{◌||◌, ◌&&◌, ◌==◌}
+use Rattle.std.specs.Prelude.{◌||◌, ◌==◌}
 use Rattle.std.proofs.lemmas.Bool.{ne_eqb}
-use Rattle.ir_lex.specs.Gap.{begins_with, is_marker, is_heading, is_debug_line, is_skipped}
+use Rattle.ir_lex.specs.Gap.{begins_with, is_heading, is_debug_line, is_skipped}
 
 -- a line that begins with another byte than a word begins with neither it nor it and a marker
 no_word : (code : ℕ) (word : List ℕ) (first : ℕ) (rest : List ℕ) → (code == first) ≡ false → begins_with (first ∷ rest) (code ∷ word) ≡ false
@@ -13,10 +13,10 @@ no_line : (code : ℕ) (words : List ℕ) (first : ℕ) (rest : List ℕ) → (c
 unfolding is_debug_line
 no_line code words first rest other = rw (no_word code words first rest other) refl
 
--- a test, and the tests behind it, which fail
-or_none : (test : Bool) → (test || false || false || false || false || false || false || false) ≡ test
-or_none true = refl
-or_none false = refl
+-- a test, and so many tests behind it, which fail
+or_seven : (test : Bool) → (test || false || false || false || false || false || false || false) ≡ test
+or_seven true = refl
+or_seven false = refl
 
 or_five : (test : Bool) → (test || false || false || false || false || false) ≡ test
 or_five true = refl
@@ -68,7 +68,7 @@ pub skipped_source : (bytes rest : List ℕ) (first : ℕ) → bytes ≡ first �
 unfolding is_skipped is_heading
 skipped_source bytes rest first is here =
     rw (is, here, no_target 115 rest refl, no_attributes 115 rest refl, no_metadata 115 rest refl, no_record 115 rest refl, no_call 115 rest refl, no_tail 115 rest refl, no_declare 115 rest refl)
-    (or_none (begins_with (115 ∷ rest) (codes "source_filename")))
+    (or_seven (begins_with (115 ∷ rest) (codes "source_filename")))
 
 pub skipped_target : (bytes rest : List ℕ) (first : ℕ) → bytes ≡ first ∷ rest → first ≡ 116
     → is_skipped bytes ≡ (begins_with bytes (codes "target") || is_debug_line bytes (codes "tail call void"))
@@ -116,8 +116,17 @@ pub skipped_never : (bytes rest : List ℕ) (first : ℕ) → bytes ≡ first �
 unfolding is_skipped is_heading
 skipped_never bytes rest first is n33 n35 n97 n99 n100 n115 n116 =
     let no : (code : ℕ) → first ≢ code → (code == first) ≡ false = λ code other. ne_eqb code first (λ same. other (sym same)) in
-    rw (is, no_source first rest (no 115 n115), no_target first rest (no 116 n116), no_attributes first rest (no 97 n97), no_metadata first rest (no 33 n33),
-    no_record first rest (no 35 n35), no_call first rest (no 99 n99), no_tail first rest (no 116 n116), no_declare first rest (no 100 n100)) refl
+    rw (
+      is,
+      no_source first rest (no 115 n115),
+      no_target first rest (no 116 n116),
+      no_attributes first rest (no 97 n97),
+      no_metadata first rest (no 33 n33),
+      no_record first rest (no 35 n35),
+      no_call first rest (no 99 n99),
+      no_tail first rest (no 116 n116),
+      no_declare first rest (no 100 n100),
+    ) refl
 
 pub skipped_end : (bytes : List ℕ) → length bytes ≡ 0 → is_skipped bytes ≡ false
 unfolding is_skipped is_heading is_debug_line begins_with

@@ -1,10 +1,10 @@
 -- The tokens from a spot on, step by step.
-use Rattle.std.proofs.Common.{◌≡◌, ◌≢◌, ℕ, zero, suc, ◌+◌, Bool, true, false, cond, ◌<◌, ◌-◌, List, [], ◌∷◌, length, take, drop, Some, None, refl, sym, ap, subst, ◌∙◌, add-one, arith}
+use Rattle.std.proofs.Common.{◌≡◌, ◌≢◌, ℕ, zero, suc, ◌+◌, Bool, true, false, cond, List, [], ◌∷◌, length, take, drop, Some, None, refl, sym, ap, subst, ◌∙◌, add-one, arith}
 use Rattle.std.specs.Prelude.{◌==◌}
 use Rattle.std.proofs.lemmas.Bool.{ne_eqb}
 use Rattle.std.specs.List.{prefix_len}
 use Rattle.ir_lex.specs.declared.token.TokenKind.{TokenKind}
-use Rattle.ir_lex.specs.Bytes.{is_space, is_blank, is_in_line, is_name_byte}
+use Rattle.ir_lex.specs.Bytes.{is_space, is_blank, is_in_line}
 use Rattle.ir_lex.specs.Extent.{extent_of}
 use Rattle.ir_lex.specs.Lexer.{Spot, ended, ahead, failed, past, gap_of, passes_line, tokens_after}
 use Rattle.ir_lex.specs.Place.{BeginsNoGap}

@@ -93,7 +93,8 @@ fn plain_extent(first: u8, rest: &[u8], known: usize) -> Option<Found>
     })
 }
 
-/// How many bytes of a plain name stand at the front, of which some were passed.
+/// How many bytes of a plain name stand behind its first, of which some were passed, so that they aren't read again.
+/// `known` counts the first too, or is 0 where nothing is known.
 #[inline(always)]
 #[tactic(auto, using(crate::proofs::Extents::run_from, crate::proofs::Extents::run_within))]
 fn run_len(rest: &[u8], passed: usize, known: usize) -> usize
@@ -108,7 +109,8 @@ fn run_len(rest: &[u8], passed: usize, known: usize) -> usize
     passed + rest_len(behind)
 }
 
-/// How many bytes of a plain name stand at the front, where there is seldom one: the loop waits for the first.
+/// How many bytes of a plain name stand behind a word or a number: as a rule none, so the first is tested before the
+/// loop is set up.
 #[inline(always)]
 fn rest_len(bytes: &[u8]) -> usize
     ensures value { result ≡ prefix_len is_name_byte bytes.now }
@@ -124,7 +126,8 @@ fn rest_len(bytes: &[u8]) -> usize
     }
 }
 
-/// What a byte of a plain name begins that is no label, where no quoted text follows a `c`.
+/// What a byte of a plain name begins that is no label, where no quote follows a `c`. Letters come first, since most
+/// tokens of this kind are words.
 #[inline(always)]
 #[tactic(auto, using(crate::proofs::Extents::digits_in_name, crate::proofs::Extents::word_in_name))]
 fn unlabelled_extent(first: u8, rest: &[u8]) -> Option<(TokenKind, usize)>

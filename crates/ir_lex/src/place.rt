@@ -1,4 +1,5 @@
-//! A place in a text, and the way from one token to the next.
+//! A place in a text, and the way from one token to the next. The functions on this way are inlined, here and in the
+//! files below, since places and results pass through memory at a call.
 
 ghost use Rattle.std.specs.Prelude.{◌≡◌, ◌≢◌, ◌+◌, ◌<◌, ◌≤◌, ◌∷◌, length, true, false, IfSome, MatchOption};
 ghost use Rattle.std.specs.List.{prefix_len};
