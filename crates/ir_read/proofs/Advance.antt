@@ -1,10 +1,13 @@
 -- Which rule takes a token, case by case.
-use Rattle.std.proofs.Common.{◌≡◌, ℕ, zero, suc, ◌-◌, ◌<◌, List, [], ◌∷◌, ◌++◌, Some, None, Ok, Err, refl, arith}
+use Rattle.std.proofs.Common.{◌≡◌, ℕ, zero, suc, ◌+◌, ◌-◌, ◌<◌, false, List, [], ◌∷◌, ◌++◌, length, get_or, reverse, take, Bor, Some, None, Ok, Err, refl, sym, arith}
+use Rattle.std.specs.Prelude.{◌==◌}
+use Rattle.std.specs.List.{flat_map}
+use Rattle.std.proofs.lemmas.List.{reverse-append, take_more}
 use Rattle.ir_read.specs.declared.terminal.Terminal.{Terminal}
 use Rattle.ir_read.specs.declared.grammar.Rule.{Rule}
 use Rattle.ir_read.specs.declared.grammar.Rule.TheVariants as r
 use Rattle.ir_read.specs.Grammar.{otherwise, row}
-use Rattle.ir_read.specs.Wants.{advance}
+use Rattle.ir_read.specs.Wants.{advance, is_nothing}
 
 pub advance_none : (depth : ℕ) (terminal : Terminal) → advance depth [] terminal ≡ Err r.Items
 unfolding advance
@@ -38,3 +41,20 @@ advance_below zero rule wants more terminal is other positive = absurd (omega ar
 advance_below (suc depth) rule wants more terminal is other positive =
     let e : suc depth - 1 ≡ depth = omega arith in
     rw e (advance_stands depth rule wants more terminal is other)
+
+-- a rule in front is something
+pub something_is_wanted : (front rest : List Rule) → (length front == 0) ≡ false → is_nothing (front ++ rest) ≡ false
+something_is_wanted [] rest is = absurd (let h : ⊥ = cc in h)
+something_is_wanted (rule ∷ front) rest is = refl
+
+-- so is one in a row, where the rows behind it have none
+pub row_is_wanted : (rows : List (Bor (List Rule))) (place count : ℕ) (row : Bor (List Rule)) → place < length rows → count ≡ place + 1 →
+    (length (get_or rows place row).now == 0) ≡ false →
+    flat_map (λ row. row.now) (reverse (take count rows)) ≡ flat_map (λ row. row.now) (reverse rows) →
+    false ≡ is_nothing (flat_map (λ row. row.now) (reverse rows))
+row_is_wanted rows place count row lt is some same =
+    let split : reverse (take count rows) ≡ get_or rows place row ∷ reverse (take place rows) =
+        rw (is, take_more rows place row lt) (reverse-append (take place rows) (get_or rows place row ∷ [])) in
+    let wanted : is_nothing (flat_map (λ row. row.now) (reverse (take count rows))) ≡ false =
+        rw split (something_is_wanted (get_or rows place row).now (flat_map (λ row. row.now) (reverse (take place rows))) some) in
+    rw (sym same) (sym wanted)

@@ -1,6 +1,6 @@
 //! The machine that reads tokens by the grammar, one at a time.
 
-ghost use Rattle.std.specs.Prelude.{◌≡◌, IfOk};
+ghost use Rattle.std.specs.Prelude.{◌≡◌, IfOk, OnOk, OnErr, None};
 ghost use Rattle.rc_base.specs.Failures.{Gives};
 ghost use Rattle.ir_read.specs.Machine.{begun, fed, fed_behind_comma, fed_free, fed_in_form, is_done};
 
@@ -60,10 +60,11 @@ impl Machine {
         ensures { Gives (λ taken. (taken, self.new)) result (fed self.old terminal) }
     {
         match self.mode {
-            Mode::Free => self.feed_free(terminal),
-            Mode::Comma => self.feed_behind_comma(terminal),
-            mode => self.feed_in_form(mode, terminal),
+            Mode::Free => {}
+            Mode::Comma => self.pass_comma(terminal)?,
+            mode => return self.feed_in_form(mode, terminal),
         }
+        self.feed_free(terminal)
     }
 
     #[tactic(auto, unfolding(crate::specs::Machine::fed_free))]
@@ -89,16 +90,17 @@ impl Machine {
         }
     }
 
+    /// Drops the comma that is held, or a rule takes it.
     #[tactic(auto, unfolding(crate::specs::Machine::fed_behind_comma))]
-    #[inline(always)]
-    fn feed_behind_comma(&mut self, terminal: Terminal) -> Result<Option<Rule>, Failure<Refusal>>
-        ensures { Gives (λ taken. (taken, self.new)) result (fed_behind_comma self.old.wants terminal) }
+    fn pass_comma(&mut self, terminal: Terminal) -> Result<(), Failure<Refusal>>
+        ensures passed { OnOk result (fed_behind_comma self.old.wants terminal ≡ fed_free self.new.wants terminal) }
+        ensures refused { OnErr result (Gives (λ _. (None, self.new)) result (fed_behind_comma self.old.wants terminal)) }
     {
         if drops_comma(terminal) {
-            return self.feed_free(terminal);
+            return Ok(());
         }
         match self.wants.advance(DEPTH, Terminal::Comma) {
-            Ok(_) => self.feed_free(terminal),
+            Ok(_) => Ok(()),
             Err(Failure::Refused(_)) => Err(Failure::Refused(Refusal::Comma)),
             Err(Failure::NoMemory) => Err(Failure::NoMemory),
         }

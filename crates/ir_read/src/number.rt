@@ -6,11 +6,15 @@ ghost use Rattle.std.specs.List.{list_all};
 ghost use Rattle.std.specs.Str.Parse.{digits_value};
 ghost use Rattle.ir_read.specs.Terminal as spec;
 
+/// So many digits always write a number below 2^64.
+const SHORT: usize = 19;
+
 /// Whether these are decimal digits whose number is below 2^64.
+#[tactic(auto, using(crate::proofs::Decimals::short_fits))]
 pub fn fits_word(digits: &[u8]) -> bool
     ensures { result ≡ spec.fits_word digits.now }
 {
-    number_of(digits).is_some()
+    is_all_digits(digits) && (digits.len() <= SHORT || value_of(digits).is_some())
 }
 
 /// The number that decimal digits write, if it is below 2^64; 0 where there are none.

@@ -2,6 +2,7 @@
 
 ghost use Rattle.std.specs.Prelude.{◌≡◌, [], ◌∷◌, IfOk};
 ghost use Rattle.rc_base.specs.Failures.{Gives};
+ghost use Rattle.ir_read.specs.Cause.{ends_type as spec_ends_type};
 ghost use Rattle.ir_read.specs.Read as spec;
 
 use crate::cause::{ends_type, error_of};
@@ -48,27 +49,42 @@ impl Ending {
 #[derive(Drop)]
 pub struct Reader<'s> {
     machine: Machine,
-    /// Whether the last token, skipped ones aside, ended a type.
-    behind_type: bool,
+    last: Last,
     nodes: Vec<Node<'s>>,
 }
 
+/// The last token, skipped ones aside, with the rule that took it. Whether it ended a type is asked only where the next
+/// one is refused.
+#[derive(Clone, Copy)]
+struct Last {
+    rule: Rule,
+    terminal: Terminal,
+}
+
+/// A token that ends no type.
+const NO_TYPE: Last = Last {
+    rule: Rule::Items,
+    terminal: Terminal::End,
+};
+
 impl<'s> Model for Reader<'s> {
+    ghost use Rattle.ir_read.specs.Cause.{ends_type};
     ghost use Rattle.ir_read.specs.Read.{Progress};
 
     ghost Value = { Progress };
 
-    ghost view = { λ reader. record { state = reader.machine; behind_type = reader.behind_type; nodes = reader.nodes.items } };
+    ghost view = { λ reader. record { state = reader.machine; behind_type = ends_type reader.last.rule reader.last.terminal; nodes = reader.nodes.items } };
 }
 
 impl<'s> Reader<'s> {
     /// Before the first token.
+    #[tactic(auto, unfolding(crate::specs::Cause::ends_type))]
     pub fn new(alloc: Global) -> Result<Reader<'s>, AllocError>
         ensures { IfOk result (λ reader. reader ≡ spec.beginning) }
     {
         Ok(Reader {
             machine: Machine::new(alloc)?,
-            behind_type: false,
+            last: NO_TYPE,
             nodes: Vec::new(alloc),
         })
     }
@@ -95,12 +111,12 @@ impl<'s> Reader<'s> {
         let mode = self.machine.mode();
         match self.machine.feed(terminal) {
             Ok(taken) => {
-                self.behind_type = behind_after(taken, mode, self.behind_type, terminal);
+                self.last = self.last.after(taken, mode, terminal);
                 note(&mut self.nodes, taken, terminal, text, line)?;
                 Ok(())
             }
             Err(Failure::Refused(refusal)) => {
-                let behind_type = directly_behind(mode, self.behind_type);
+                let behind_type = directly_behind(mode, self.last.ends_type());
                 Err(Failure::Refused(error_of(behind_type, refusal, terminal, line)))
             }
             Err(Failure::NoMemory) => Err(Failure::NoMemory),
@@ -141,14 +157,24 @@ fn directly_behind(mode: Mode, behind_type: bool) -> bool
     }
 }
 
-/// Whether the last token ended a type, behind one more.
-#[tactic(auto, unfolding(crate::specs::Read::behind_after))]
-#[inline(always)]
-fn behind_after(taken: Option<Rule>, mode: Mode, behind_type: bool, terminal: Terminal) -> bool
-    ensures { result ≡ spec.behind_after taken mode behind_type terminal }
-{
-    match taken {
-        Some(rule) => ends_type(rule, terminal),
-        None => directly_behind(mode, behind_type) || (behind_type && drops_comma(terminal)),
+impl Last {
+    #[inline(always)]
+    fn ends_type(self) -> bool
+        ensures { result ≡ spec_ends_type self.rule self.terminal }
+    {
+        ends_type(self.rule, self.terminal)
+    }
+
+    /// Behind one more. A comma that a rule took lies between a type and what is skipped then.
+    #[tactic(auto, unfolding(crate::specs::Read::behind_after, crate::specs::Read::directly_behind, crate::specs::Cause::ends_type))]
+    #[inline(always)]
+    fn after(self, taken: Option<Rule>, mode: Mode, terminal: Terminal) -> Last
+        ensures { spec_ends_type result.rule result.terminal ≡ spec.behind_after taken mode (spec_ends_type self.rule self.terminal) terminal }
+    {
+        match (taken, mode) {
+            (Some(rule), _) => Last { rule, terminal },
+            (None, Mode::Comma) if !drops_comma(terminal) => NO_TYPE,
+            _ => self,
+        }
     }
 }

@@ -1,6 +1,6 @@
 //! The classes of words. The tables go by length, so that a word is compared with few others.
 
-ghost use Rattle.std.specs.Prelude.{◌≡◌, map};
+ghost use Rattle.std.specs.Prelude.{◌≡◌, bytes_eq, map};
 ghost use Rattle.ir_read.specs.Words as spec;
 
 use crate::terminal::Terminal;
@@ -195,9 +195,28 @@ fn class_in(word: &[u8], rows: &[(&str, Terminal)]) -> Terminal
     ensures { result ≡ spec.class_in Terminal.OtherWord (map (λ row. (row.0.now, row.1)) rows.now) word.now }
 {
     for (name, terminal) in rows {
-        if word == name.as_bytes() {
+        if is_same(word, name.as_bytes()) {
             return *terminal;
         }
     }
     Terminal::OtherWord
+}
+
+/// Whether two words are the same. Most differ in their first byte.
+#[inline(always)]
+fn is_same(word: &[u8], name: &[u8]) -> bool
+    ensures { result ≡ bytes_eq word.now name.now }
+{
+    let mut word = word;
+    let mut name = name;
+    while let Some((byte, rest)) = word.split_first() {
+        match name.split_first() {
+            Some((other, others)) if byte == other => {
+                word = rest;
+                name = others;
+            }
+            _ => return false,
+        }
+    }
+    name.is_empty()
 }
