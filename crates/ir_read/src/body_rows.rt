@@ -6,6 +6,7 @@ ghost use Rattle.ir_read.specs.Grammar as table;
 use crate::grammar::Rule;
 use crate::terminal::Terminal;
 
+#[inline(always)]
 pub fn body_row(terminal: Terminal) -> Option<&'static [Rule]>
     ensures { option_map (λ rules. rules.now) result ≡ table.body_row terminal }
 {
@@ -27,6 +28,7 @@ pub fn body_row(terminal: Terminal) -> Option<&'static [Rule]>
     }
 }
 
+#[inline(always)]
 pub fn operation_row(terminal: Terminal) -> Option<&'static [Rule]>
     ensures { option_map (λ rules. rules.now) result ≡ table.operation_row terminal }
 {
@@ -67,6 +69,7 @@ pub fn operation_row(terminal: Terminal) -> Option<&'static [Rule]>
     }
 }
 
+#[inline(always)]
 pub fn comma_typed_row(terminal: Terminal) -> Option<&'static [Rule]>
     ensures { option_map (λ rules. rules.now) result ≡ table.comma_typed_row terminal }
 {
@@ -76,6 +79,7 @@ pub fn comma_typed_row(terminal: Terminal) -> Option<&'static [Rule]>
     }
 }
 
+#[inline(always)]
 pub fn comma_operand_row(terminal: Terminal) -> Option<&'static [Rule]>
     ensures { option_map (λ rules. rules.now) result ≡ table.comma_operand_row terminal }
 {
@@ -85,6 +89,7 @@ pub fn comma_operand_row(terminal: Terminal) -> Option<&'static [Rule]>
     }
 }
 
+#[inline(always)]
 pub fn comma_label_row(terminal: Terminal) -> Option<&'static [Rule]>
     ensures { option_map (λ rules. rules.now) result ≡ table.comma_label_row terminal }
 {
@@ -94,6 +99,7 @@ pub fn comma_label_row(terminal: Terminal) -> Option<&'static [Rule]>
     }
 }
 
+#[inline(always)]
 pub fn edge_row(terminal: Terminal) -> Option<&'static [Rule]>
     ensures { option_map (λ rules. rules.now) result ≡ table.edge_row terminal }
 {
@@ -103,6 +109,7 @@ pub fn edge_row(terminal: Terminal) -> Option<&'static [Rule]>
     }
 }
 
+#[inline(always)]
 pub fn comma_block_row(terminal: Terminal) -> Option<&'static [Rule]>
     ensures { option_map (λ rules. rules.now) result ≡ table.comma_block_row terminal }
 {
@@ -112,6 +119,7 @@ pub fn comma_block_row(terminal: Terminal) -> Option<&'static [Rule]>
     }
 }
 
+#[inline(always)]
 pub fn more_edges_row(terminal: Terminal) -> Option<&'static [Rule]>
     ensures { option_map (λ rules. rules.now) result ≡ table.more_edges_row terminal }
 {
@@ -121,6 +129,7 @@ pub fn more_edges_row(terminal: Terminal) -> Option<&'static [Rule]>
     }
 }
 
+#[inline(always)]
 pub fn count_row(terminal: Terminal) -> Option<&'static [Rule]>
     ensures { option_map (λ rules. rules.now) result ≡ table.count_row terminal }
 {
@@ -130,6 +139,7 @@ pub fn count_row(terminal: Terminal) -> Option<&'static [Rule]>
     }
 }
 
+#[inline(always)]
 pub fn steps_row(terminal: Terminal) -> Option<&'static [Rule]>
     ensures { option_map (λ rules. rules.now) result ≡ table.steps_row terminal }
 {
@@ -139,6 +149,7 @@ pub fn steps_row(terminal: Terminal) -> Option<&'static [Rule]>
     }
 }
 
+#[inline(always)]
 pub fn branch_row(terminal: Terminal) -> Option<&'static [Rule]>
     ensures { option_map (λ rules. rules.now) result ≡ table.branch_row terminal }
 {
@@ -148,6 +159,7 @@ pub fn branch_row(terminal: Terminal) -> Option<&'static [Rule]>
     }
 }
 
+#[inline(always)]
 pub fn open_cases_row(terminal: Terminal) -> Option<&'static [Rule]>
     ensures { option_map (λ rules. rules.now) result ≡ table.open_cases_row terminal }
 {
@@ -157,6 +169,7 @@ pub fn open_cases_row(terminal: Terminal) -> Option<&'static [Rule]>
     }
 }
 
+#[inline(always)]
 pub fn cases_row(terminal: Terminal) -> Option<&'static [Rule]>
     ensures { option_map (λ rules. rules.now) result ≡ table.cases_row terminal }
 {
@@ -166,6 +179,7 @@ pub fn cases_row(terminal: Terminal) -> Option<&'static [Rule]>
     }
 }
 
+#[inline(always)]
 pub fn returned_row(terminal: Terminal) -> Option<&'static [Rule]>
     ensures { option_map (λ rules. rules.now) result ≡ table.returned_row terminal }
 {

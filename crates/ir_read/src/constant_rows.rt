@@ -6,6 +6,7 @@ ghost use Rattle.ir_read.specs.Grammar as table;
 use crate::grammar::Rule;
 use crate::terminal::Terminal;
 
+#[inline(always)]
 pub fn initializer_row(terminal: Terminal) -> Option<&'static [Rule]>
     ensures { option_map (λ rules. rules.now) result ≡ table.initializer_row terminal }
 {
@@ -38,6 +39,7 @@ pub fn initializer_row(terminal: Terminal) -> Option<&'static [Rule]>
     }
 }
 
+#[inline(always)]
 pub fn elements_row(terminal: Terminal) -> Option<&'static [Rule]>
     ensures { option_map (λ rules. rules.now) result ≡ table.elements_row terminal }
 {
@@ -47,6 +49,7 @@ pub fn elements_row(terminal: Terminal) -> Option<&'static [Rule]>
     }
 }
 
+#[inline(always)]
 pub fn more_elements_row(terminal: Terminal) -> Option<&'static [Rule]>
     ensures { option_map (λ rules. rules.now) result ≡ table.more_elements_row terminal }
 {
@@ -57,6 +60,7 @@ pub fn more_elements_row(terminal: Terminal) -> Option<&'static [Rule]>
     }
 }
 
+#[inline(always)]
 pub fn members_row(terminal: Terminal) -> Option<&'static [Rule]>
     ensures { option_map (λ rules. rules.now) result ≡ table.members_row terminal }
 {
@@ -66,6 +70,7 @@ pub fn members_row(terminal: Terminal) -> Option<&'static [Rule]>
     }
 }
 
+#[inline(always)]
 pub fn more_members_row(terminal: Terminal) -> Option<&'static [Rule]>
     ensures { option_map (λ rules. rules.now) result ≡ table.more_members_row terminal }
 {
@@ -76,6 +81,7 @@ pub fn more_members_row(terminal: Terminal) -> Option<&'static [Rule]>
     }
 }
 
+#[inline(always)]
 pub fn operand_row(terminal: Terminal) -> Option<&'static [Rule]>
     ensures { option_map (λ rules. rules.now) result ≡ table.operand_row terminal }
 {
@@ -106,6 +112,7 @@ pub fn operand_row(terminal: Terminal) -> Option<&'static [Rule]>
     }
 }
 
+#[inline(always)]
 pub fn comma_ptr_row(terminal: Terminal) -> Option<&'static [Rule]>
     ensures { option_map (λ rules. rules.now) result ≡ table.comma_ptr_row terminal }
 {
@@ -115,6 +122,7 @@ pub fn comma_ptr_row(terminal: Terminal) -> Option<&'static [Rule]>
     }
 }
 
+#[inline(always)]
 pub fn indices_row(terminal: Terminal) -> Option<&'static [Rule]>
     ensures { option_map (λ rules. rules.now) result ≡ table.indices_row terminal }
 {

@@ -123,6 +123,7 @@ pub enum Rule {
 
 /// What follows the token with which a rule begins, where it is one of the class.
 #[tactic(auto, unfolding(crate::specs::Grammar::row))]
+#[inline(always)]
 pub fn row(rule: Rule, terminal: Terminal) -> Option<&'static [Rule]>
     ensures { option_map (λ rules. rules.now) result ≡ table.row rule terminal }
 {
@@ -201,6 +202,7 @@ pub fn row(rule: Rule, terminal: Terminal) -> Option<&'static [Rule]>
 
 /// What a rule stands for at a token with which it does not begin, where it stands for anything.
 #[tactic(auto, unfolding(crate::specs::Grammar::otherwise))]
+#[inline(always)]
 pub fn otherwise(rule: Rule) -> Option<&'static [Rule]>
     ensures { option_map (λ rules. rules.now) result ≡ table.otherwise rule }
 {

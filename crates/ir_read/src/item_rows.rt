@@ -6,6 +6,7 @@ ghost use Rattle.ir_read.specs.Grammar as table;
 use crate::grammar::Rule;
 use crate::terminal::Terminal;
 
+#[inline(always)]
 pub fn items_row(terminal: Terminal) -> Option<&'static [Rule]>
     ensures { option_map (λ rules. rules.now) result ≡ table.items_row terminal }
 {
@@ -37,6 +38,7 @@ pub fn items_row(terminal: Terminal) -> Option<&'static [Rule]>
     }
 }
 
+#[inline(always)]
 pub fn open_declared_row(terminal: Terminal) -> Option<&'static [Rule]>
     ensures { option_map (λ rules. rules.now) result ≡ table.open_declared_row terminal }
 {
@@ -46,6 +48,7 @@ pub fn open_declared_row(terminal: Terminal) -> Option<&'static [Rule]>
     }
 }
 
+#[inline(always)]
 pub fn declared_row(terminal: Terminal) -> Option<&'static [Rule]>
     ensures { option_map (λ rules. rules.now) result ≡ table.declared_row terminal }
 {
@@ -56,6 +59,7 @@ pub fn declared_row(terminal: Terminal) -> Option<&'static [Rule]>
     }
 }
 
+#[inline(always)]
 pub fn declared_name_row(terminal: Terminal) -> Option<&'static [Rule]>
     ensures { option_map (λ rules. rules.now) result ≡ table.declared_name_row terminal }
 {
@@ -65,6 +69,7 @@ pub fn declared_name_row(terminal: Terminal) -> Option<&'static [Rule]>
     }
 }
 
+#[inline(always)]
 pub fn more_declared_row(terminal: Terminal) -> Option<&'static [Rule]>
     ensures { option_map (λ rules. rules.now) result ≡ table.more_declared_row terminal }
 {
@@ -75,6 +80,7 @@ pub fn more_declared_row(terminal: Terminal) -> Option<&'static [Rule]>
     }
 }
 
+#[inline(always)]
 pub fn next_declared_row(terminal: Terminal) -> Option<&'static [Rule]>
     ensures { option_map (λ rules. rules.now) result ≡ table.next_declared_row terminal }
 {
@@ -84,6 +90,7 @@ pub fn next_declared_row(terminal: Terminal) -> Option<&'static [Rule]>
     }
 }
 
+#[inline(always)]
 pub fn open_parameters_row(terminal: Terminal) -> Option<&'static [Rule]>
     ensures { option_map (λ rules. rules.now) result ≡ table.open_parameters_row terminal }
 {
@@ -93,6 +100,7 @@ pub fn open_parameters_row(terminal: Terminal) -> Option<&'static [Rule]>
     }
 }
 
+#[inline(always)]
 pub fn parameters_row(terminal: Terminal) -> Option<&'static [Rule]>
     ensures { option_map (λ rules. rules.now) result ≡ table.parameters_row terminal }
 {
@@ -102,6 +110,7 @@ pub fn parameters_row(terminal: Terminal) -> Option<&'static [Rule]>
     }
 }
 
+#[inline(always)]
 pub fn parameter_name_row(terminal: Terminal) -> Option<&'static [Rule]>
     ensures { option_map (λ rules. rules.now) result ≡ table.parameter_name_row terminal }
 {
@@ -111,6 +120,7 @@ pub fn parameter_name_row(terminal: Terminal) -> Option<&'static [Rule]>
     }
 }
 
+#[inline(always)]
 pub fn more_parameters_row(terminal: Terminal) -> Option<&'static [Rule]>
     ensures { option_map (λ rules. rules.now) result ≡ table.more_parameters_row terminal }
 {

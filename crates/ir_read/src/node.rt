@@ -15,12 +15,12 @@ use std::marker::Model;
 /// A token of an item, with the rule that took it. Its text is lent.
 #[derive(Drop)]
 pub struct Node<'s> {
-    pub rule: Rule,
-    pub terminal: Terminal,
     /// The token's bytes, with sigil, quotes and colon.
     pub text: &'s [u8],
     /// Its line, from 1.
     pub line: u32,
+    pub rule: Rule,
+    pub terminal: Terminal,
 }
 
 impl<'s> Model for Node<'s> {
@@ -76,10 +76,10 @@ pub fn note<'s>(
         && is_kept(terminal)
     {
         nodes.push(Node {
-            rule,
-            terminal,
             text,
             line,
+            rule,
+            terminal,
         })?;
     }
     Ok(())

@@ -149,16 +149,27 @@ fn has_name_byte(name: &[u8]) -> bool
     name.iter().any(|byte| is_name_byte(*byte))
 }
 
+// For each byte 1 where it is one of plain names, 2 for the quote, and else 0.
+static NAME_BYTES: [u8; 256] = *b"\
+    00000000000000000000000000000000\
+    00201000000001101111111111000000\
+    01111111111111111111111111100001\
+    01111111111111111111111111100000\
+    00000000000000000000000000000000\
+    00000000000000000000000000000000\
+    00000000000000000000000000000000\
+    00000000000000000000000000000000";
+
 fn is_plain_or_quote(byte: u8) -> bool
     ensures { result ≡ spec.is_plain_or_quote byte }
 {
-    byte == b'"' || is_name_byte(byte)
+    NAME_BYTES[byte as usize] != b'0'
 }
 
 fn is_name_byte(byte: u8) -> bool
     ensures { result ≡ spec.is_name_byte byte }
 {
-    byte.is_ascii_alphanumeric() || byte == b'$' || byte == b'.' || byte == b'_' || byte == b'-'
+    NAME_BYTES[byte as usize] == b'1'
 }
 
 fn number_class(text: &[u8]) -> Terminal

@@ -6,6 +6,7 @@ ghost use Rattle.ir_read.specs.Grammar as table;
 use crate::grammar::Rule;
 use crate::terminal::Terminal;
 
+#[inline(always)]
 pub fn equals_row(terminal: Terminal) -> Option<&'static [Rule]>
     ensures { option_map (λ rules. rules.now) result ≡ table.token_row Rule.Equals terminal }
 {
@@ -15,6 +16,7 @@ pub fn equals_row(terminal: Terminal) -> Option<&'static [Rule]>
     }
 }
 
+#[inline(always)]
 pub fn key_type_row(terminal: Terminal) -> Option<&'static [Rule]>
     ensures { option_map (λ rules. rules.now) result ≡ table.token_row Rule.KeyType terminal }
 {
@@ -24,6 +26,7 @@ pub fn key_type_row(terminal: Terminal) -> Option<&'static [Rule]>
     }
 }
 
+#[inline(always)]
 pub fn global_kind_row(terminal: Terminal) -> Option<&'static [Rule]>
     ensures { option_map (λ rules. rules.now) result ≡ table.token_row Rule.GlobalKind terminal }
 {
@@ -33,6 +36,7 @@ pub fn global_kind_row(terminal: Terminal) -> Option<&'static [Rule]>
     }
 }
 
+#[inline(always)]
 pub fn global_name_row(terminal: Terminal) -> Option<&'static [Rule]>
     ensures { option_map (λ rules. rules.now) result ≡ table.token_row Rule.GlobalName terminal }
 {
@@ -42,6 +46,7 @@ pub fn global_name_row(terminal: Terminal) -> Option<&'static [Rule]>
     }
 }
 
+#[inline(always)]
 pub fn defined_name_row(terminal: Terminal) -> Option<&'static [Rule]>
     ensures { option_map (λ rules. rules.now) result ≡ table.token_row Rule.DefinedName terminal }
 {
@@ -51,6 +56,7 @@ pub fn defined_name_row(terminal: Terminal) -> Option<&'static [Rule]>
     }
 }
 
+#[inline(always)]
 pub fn parameter_type_row(terminal: Terminal) -> Option<&'static [Rule]>
     ensures { option_map (λ rules. rules.now) result ≡ table.token_row Rule.ParameterType terminal }
 {
@@ -60,6 +66,7 @@ pub fn parameter_type_row(terminal: Terminal) -> Option<&'static [Rule]>
     }
 }
 
+#[inline(always)]
 pub fn open_body_row(terminal: Terminal) -> Option<&'static [Rule]>
     ensures { option_map (λ rules. rules.now) result ≡ table.token_row Rule.OpenBody terminal }
 {
@@ -69,6 +76,7 @@ pub fn open_body_row(terminal: Terminal) -> Option<&'static [Rule]>
     }
 }
 
+#[inline(always)]
 pub fn close_paren_row(terminal: Terminal) -> Option<&'static [Rule]>
     ensures { option_map (λ rules. rules.now) result ≡ table.token_row Rule.CloseParen terminal }
 {
@@ -78,6 +86,7 @@ pub fn close_paren_row(terminal: Terminal) -> Option<&'static [Rule]>
     }
 }
 
+#[inline(always)]
 pub fn array_size_row(terminal: Terminal) -> Option<&'static [Rule]>
     ensures { option_map (λ rules. rules.now) result ≡ table.token_row Rule.ArraySize terminal }
 {
@@ -87,6 +96,7 @@ pub fn array_size_row(terminal: Terminal) -> Option<&'static [Rule]>
     }
 }
 
+#[inline(always)]
 pub fn key_x_row(terminal: Terminal) -> Option<&'static [Rule]>
     ensures { option_map (λ rules. rules.now) result ≡ table.token_row Rule.KeyX terminal }
 {
@@ -96,6 +106,7 @@ pub fn key_x_row(terminal: Terminal) -> Option<&'static [Rule]>
     }
 }
 
+#[inline(always)]
 pub fn close_array_row(terminal: Terminal) -> Option<&'static [Rule]>
     ensures { option_map (λ rules. rules.now) result ≡ table.token_row Rule.CloseArray terminal }
 {
@@ -105,6 +116,7 @@ pub fn close_array_row(terminal: Terminal) -> Option<&'static [Rule]>
     }
 }
 
+#[inline(always)]
 pub fn packed_brace_row(terminal: Terminal) -> Option<&'static [Rule]>
     ensures { option_map (λ rules. rules.now) result ≡ table.token_row Rule.PackedBrace terminal }
 {
@@ -114,6 +126,7 @@ pub fn packed_brace_row(terminal: Terminal) -> Option<&'static [Rule]>
     }
 }
 
+#[inline(always)]
 pub fn close_type_row(terminal: Terminal) -> Option<&'static [Rule]>
     ensures { option_map (λ rules. rules.now) result ≡ table.token_row Rule.CloseType terminal }
 {
@@ -123,6 +136,7 @@ pub fn close_type_row(terminal: Terminal) -> Option<&'static [Rule]>
     }
 }
 
+#[inline(always)]
 pub fn value_type_row(terminal: Terminal) -> Option<&'static [Rule]>
     ensures { option_map (λ rules. rules.now) result ≡ table.token_row Rule.ValueType terminal }
 {
@@ -132,6 +146,7 @@ pub fn value_type_row(terminal: Terminal) -> Option<&'static [Rule]>
     }
 }
 
+#[inline(always)]
 pub fn result_type_row(terminal: Terminal) -> Option<&'static [Rule]>
     ensures { option_map (λ rules. rules.now) result ≡ table.token_row Rule.ResultType terminal }
 {
@@ -141,6 +156,7 @@ pub fn result_type_row(terminal: Terminal) -> Option<&'static [Rule]>
     }
 }
 
+#[inline(always)]
 pub fn literal_row(terminal: Terminal) -> Option<&'static [Rule]>
     ensures { option_map (λ rules. rules.now) result ≡ table.token_row Rule.Literal terminal }
 {
@@ -152,6 +168,7 @@ pub fn literal_row(terminal: Terminal) -> Option<&'static [Rule]>
     }
 }
 
+#[inline(always)]
 pub fn close_members_row(terminal: Terminal) -> Option<&'static [Rule]>
     ensures { option_map (λ rules. rules.now) result ≡ table.token_row Rule.CloseMembers terminal }
 {
@@ -161,6 +178,7 @@ pub fn close_members_row(terminal: Terminal) -> Option<&'static [Rule]>
     }
 }
 
+#[inline(always)]
 pub fn open_constant_row(terminal: Terminal) -> Option<&'static [Rule]>
     ensures { option_map (λ rules. rules.now) result ≡ table.token_row Rule.OpenConstant terminal }
 {
@@ -170,6 +188,7 @@ pub fn open_constant_row(terminal: Terminal) -> Option<&'static [Rule]>
     }
 }
 
+#[inline(always)]
 pub fn key_ptr_row(terminal: Terminal) -> Option<&'static [Rule]>
     ensures { option_map (λ rules. rules.now) result ≡ table.token_row Rule.KeyPtr terminal }
 {
@@ -179,6 +198,7 @@ pub fn key_ptr_row(terminal: Terminal) -> Option<&'static [Rule]>
     }
 }
 
+#[inline(always)]
 pub fn key_to_row(terminal: Terminal) -> Option<&'static [Rule]>
     ensures { option_map (λ rules. rules.now) result ≡ table.token_row Rule.KeyTo terminal }
 {
@@ -188,6 +208,7 @@ pub fn key_to_row(terminal: Terminal) -> Option<&'static [Rule]>
     }
 }
 
+#[inline(always)]
 pub fn predicate_row(terminal: Terminal) -> Option<&'static [Rule]>
     ensures { option_map (λ rules. rules.now) result ≡ table.token_row Rule.Predicate terminal }
 {
@@ -197,6 +218,7 @@ pub fn predicate_row(terminal: Terminal) -> Option<&'static [Rule]>
     }
 }
 
+#[inline(always)]
 pub fn key_label_row(terminal: Terminal) -> Option<&'static [Rule]>
     ensures { option_map (λ rules. rules.now) result ≡ table.token_row Rule.KeyLabel terminal }
 {
@@ -206,6 +228,7 @@ pub fn key_label_row(terminal: Terminal) -> Option<&'static [Rule]>
     }
 }
 
+#[inline(always)]
 pub fn local_name_row(terminal: Terminal) -> Option<&'static [Rule]>
     ensures { option_map (λ rules. rules.now) result ≡ table.token_row Rule.LocalName terminal }
 {
@@ -215,6 +238,7 @@ pub fn local_name_row(terminal: Terminal) -> Option<&'static [Rule]>
     }
 }
 
+#[inline(always)]
 pub fn close_edge_row(terminal: Terminal) -> Option<&'static [Rule]>
     ensures { option_map (λ rules. rules.now) result ≡ table.token_row Rule.CloseEdge terminal }
 {
@@ -224,6 +248,7 @@ pub fn close_edge_row(terminal: Terminal) -> Option<&'static [Rule]>
     }
 }
 
+#[inline(always)]
 pub fn close_written_row(terminal: Terminal) -> Option<&'static [Rule]>
     ensures { option_map (λ rules. rules.now) result ≡ table.token_row Rule.CloseWritten terminal }
 {
@@ -233,6 +258,7 @@ pub fn close_written_row(terminal: Terminal) -> Option<&'static [Rule]>
     }
 }
 
+#[inline(always)]
 pub fn callee_name_row(terminal: Terminal) -> Option<&'static [Rule]>
     ensures { option_map (λ rules. rules.now) result ≡ table.token_row Rule.CalleeName terminal }
 {

@@ -6,6 +6,7 @@ ghost use Rattle.ir_read.specs.Grammar as table;
 use crate::grammar::Rule;
 use crate::terminal::Terminal;
 
+#[inline(always)]
 pub fn type_row(terminal: Terminal) -> Option<&'static [Rule]>
     ensures { option_map (λ rules. rules.now) result ≡ table.type_row terminal }
 {
@@ -18,6 +19,7 @@ pub fn type_row(terminal: Terminal) -> Option<&'static [Rule]>
     }
 }
 
+#[inline(always)]
 pub fn aggregate_row(terminal: Terminal) -> Option<&'static [Rule]>
     ensures { option_map (λ rules. rules.now) result ≡ table.aggregate_row terminal }
 {
@@ -28,6 +30,7 @@ pub fn aggregate_row(terminal: Terminal) -> Option<&'static [Rule]>
     }
 }
 
+#[inline(always)]
 pub fn fields_row(terminal: Terminal) -> Option<&'static [Rule]>
     ensures { option_map (λ rules. rules.now) result ≡ table.fields_row terminal }
 {
@@ -37,6 +40,7 @@ pub fn fields_row(terminal: Terminal) -> Option<&'static [Rule]>
     }
 }
 
+#[inline(always)]
 pub fn more_fields_row(terminal: Terminal) -> Option<&'static [Rule]>
     ensures { option_map (λ rules. rules.now) result ≡ table.more_fields_row terminal }
 {
