@@ -6,6 +6,7 @@ mod Decimals
 mod Equations
 mod Faults
 mod Finish
+mod Lexed
 mod Outcomes
 mod Parsing
 mod Reading

@@ -7,7 +7,7 @@ ghost use Rattle.std.specs.Str.Parse.{digits_value};
 ghost use Rattle.ir_read.specs.Terminal as spec;
 
 /// So many digits always write a number below 2^64.
-const SHORT: usize = 19;
+pub const SHORT: usize = 19;
 
 /// Whether these are decimal digits whose number is below 2^64.
 #[tactic(auto, using(crate::proofs::Decimals::short_fits))]

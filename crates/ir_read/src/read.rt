@@ -1,6 +1,7 @@
 //! A reading of a module's tokens, one at a time.
 
-ghost use Rattle.std.specs.Prelude.{◌≡◌, [], ◌∷◌, IfOk};
+ghost use Rattle.std.specs.Prelude.{◌≡◌, [], ◌∷◌, true, IfOk};
+ghost use Rattle.ir_lex.specs.Token.{is_token};
 ghost use Rattle.rc_base.specs.Failures.{Gives};
 ghost use Rattle.ir_read.specs.Cause.{ends_type as spec_ends_type};
 ghost use Rattle.ir_read.specs.Read as spec;
@@ -11,7 +12,7 @@ use crate::grammar::Rule;
 use crate::machine::Machine;
 use crate::node::{Node, RawModule, note};
 use crate::skip::{Mode, drops_comma};
-use crate::terminal::{Terminal, terminal_of};
+use crate::terminal::{Terminal, lexed_class, terminal_of};
 use ir_lex::Token;
 use rc_base::Failure;
 use std::alloc::{AllocError, Global};
@@ -95,6 +96,15 @@ impl<'s> Reader<'s> {
         ensures { Gives (λ _. self.new) result (spec.put self.old (spec.lexeme_of token.now)) }
     {
         self.put(terminal_of(token.kind, token.text), token.text, token.line)
+    }
+
+    /// Goes on with a token that a lexer found.
+    #[inline(always)]
+    pub fn take_lexed(&mut self, token: &Token<'s>) -> Result<(), Failure<ModuleError>>
+        requires { is_token token.now.kind token.now.text ≡ true }
+        ensures { Gives (λ _. self.new) result (spec.put self.old (spec.lexeme_of token.now)) }
+    {
+        self.put(lexed_class(token.kind, token.text), token.text, token.line)
     }
 
     /// Goes on with a token of the class. A reader that refused a token is of no more use.

@@ -1,10 +1,12 @@
 //! The classes of tokens, as the grammar of modules tells them apart.
 
-ghost use Rattle.std.specs.Prelude.{◌≡◌, drop};
+ghost use Rattle.std.specs.Prelude.{◌≡◌, drop, true};
+ghost use Rattle.ir_lex.specs.declared.token.TokenKind.TheVariants as kinds;
+ghost use Rattle.ir_lex.specs.Token.{is_token};
 ghost use Rattle.std.specs.List.{list_all, list_any};
 ghost use Rattle.ir_read.specs.Terminal as spec;
 
-use crate::number::{fits_word, is_all_digits};
+use crate::number::{SHORT, fits_word, is_all_digits};
 use crate::words::word_class;
 use ir_lex::TokenKind;
 
@@ -107,6 +109,45 @@ pub fn terminal_of(kind: TokenKind, text: &[u8]) -> Terminal
         TokenKind::Text => string_class(text),
         TokenKind::Meta => metadata_class(text),
         TokenKind::Mark => mark_class(text),
+    }
+}
+
+/// The class of a token that a lexer found. The digits of a number and the bytes of a plain name needn't be read again.
+#[tactic(auto, unfolding(crate::specs::Terminal::terminal_of))]
+#[inline(always)]
+pub fn lexed_class(kind: TokenKind, text: &[u8]) -> Terminal
+    requires { is_token kind text.now ≡ true }
+    ensures { result ≡ spec.terminal_of kind text.now }
+{
+    match kind {
+        TokenKind::Global => lexed_global(text),
+        TokenKind::Number => lexed_number(text),
+        _ => terminal_of(kind, text),
+    }
+}
+
+#[tactic(auto, using(crate::proofs::Lexed::plain_name))]
+fn lexed_global(text: &[u8]) -> Terminal
+    requires { is_token kinds.Global text.now ≡ true }
+    ensures { result ≡ spec.global_class text.now }
+{
+    match after_first(text) {
+        [b'"', ..] => global_class(text),
+        _ => Terminal::Global,
+    }
+}
+
+#[tactic(auto, using(crate::proofs::Lexed::short_negative, crate::proofs::Lexed::short_natural))]
+fn lexed_number(text: &[u8]) -> Terminal
+    requires { is_token kinds.Number text.now ≡ true }
+    ensures { result ≡ spec.number_class text.now }
+{
+    if text.len() > SHORT {
+        return number_class(text);
+    }
+    match text {
+        [b'-', ..] => Terminal::Negative,
+        _ => Terminal::Natural,
     }
 }
 
