@@ -12,3 +12,5 @@ mod Parsing
 mod Reading
 mod Runs
 mod Samples
+mod TypeRows
+mod Types

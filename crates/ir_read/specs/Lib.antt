@@ -5,6 +5,7 @@ pub mod Machine
 pub mod Name
 pub mod Node
 pub mod Read
+pub mod Shape
 pub mod Skip
 pub mod Terminal
 pub mod Text

@@ -7,6 +7,8 @@
 //! - `wants`, `machine`: the stack of wanted rules, and the machine that reads a token at a time
 //! - `error`, `cause`: why a token is refused
 //! - `name`, `node`, `read`: what is kept, and the calls that read
+//! - `raw_type`: the types that nodes spell
+//! - `type_laws`: that what the grammar takes as a type spells one, and that it is found
 //! - `laws`: that the tokens that are read are the items of a module, and that an error is of the first fault
 #![tactic(auto)]
 
@@ -22,11 +24,13 @@ mod machine;
 mod name;
 mod node;
 mod number;
+mod raw_type;
 mod read;
 mod skip;
 mod terminal;
 mod text;
 mod token_rows;
+pub mod type_laws;
 mod type_rows;
 mod wants;
 mod words;
@@ -34,8 +38,10 @@ mod words;
 pub use error::ModuleError;
 pub use grammar::Rule;
 pub use machine::{Machine, Refusal};
+pub use name::{bare_name, is_numbered, name_of};
 pub use node::{Node, RawModule};
-pub use number::number_of;
+pub use number::{literal_of, number_of};
+pub use raw_type::{RawType, TypeForm, bits_of, count_of, type_length};
 pub use read::{Ending, Reader};
 pub use skip::Mode;
 pub use terminal::{Terminal, terminal_of};

@@ -21,7 +21,7 @@ pub fn is_numbered(terminal: Terminal, text: &[u8]) -> bool
 }
 
 /// A name with its quotes, if it has some.
-fn bare_name(terminal: Terminal, text: &[u8]) -> &[u8]
+pub fn bare_name(terminal: Terminal, text: &[u8]) -> &[u8]
     ensures { result.now ≡ spec.bare_name terminal text.now }
 {
     match terminal {

@@ -7,6 +7,7 @@
 //! - `operations`: the values of operations on words at the edges of each width, and the sizes of kinds
 //! - `copies`: lists, inputs and turns
 //! - `lexer`, `modules`: the tokens of texts, and their items or first faults
+//! - `types`: the types of texts, with their parts
 //! - `accesses`: which accesses overlap, and which conflict
 //! - `choices`: which thread a chooser takes
 //! - `turns`, `courses`: machines and the run of a small module, turn by turn
@@ -37,5 +38,7 @@ mod outside;
 mod printed;
 #[cfg(test)]
 mod turns;
+#[cfg(test)]
+mod types;
 #[cfg(test)]
 mod verdicts;
