@@ -1,0 +1,3 @@
+mod Formats
+mod Names
+mod Reading
