@@ -8,6 +8,7 @@
 //! - `copies`: lists, inputs and turns
 //! - `lexer`, `modules`: the tokens of texts, and their items or first faults
 //! - `types`: the types of texts, with their parts
+//! - `calls`: the calls of the C library and of POSIX threads, and formats of `printf`
 //! - `accesses`: which accesses overlap, and which conflict
 //! - `choices`: which thread a chooser takes
 //! - `turns`, `courses`: machines and the run of a small module, turn by turn
@@ -18,6 +19,8 @@
 
 #[cfg(test)]
 mod accesses;
+#[cfg(test)]
+mod calls;
 #[cfg(test)]
 mod cases;
 #[cfg(test)]
