@@ -1,0 +1,13 @@
+//! The names of a module: those that its items have, and those of a body's arguments, blocks and registers.
+//!
+//! - `name_table`: names with the number of each
+//! - `number`: numbers without upper limit
+//! - `local_name`: a name of a body, which is a number or plain
+//! - `local_table`: the names of a body, with the count from which definitions without a name take theirs
+#![tactic(auto)]
+
+mod name_table;
+mod number;
+
+pub use name_table::NameTable;
+pub use number::Number;
