@@ -1,2 +1,4 @@
+pub mod LocalTables
 pub mod Numbers
+pub mod RisingNumbers
 pub mod Tables

@@ -18,7 +18,7 @@ use Rattle.std.specs.Map.{lookup, update}
 use Rattle.std.specs.Ordering.{nat_cmp}
 use Rattle.ir_names.specs.NameTable.{given, number_of, GivesNumber}
 
-bytes_equiv : IsEquivalence bytes_eq
+pub bytes_equiv : IsEquivalence bytes_eq
 bytes_equiv = decided bytes_eq bytes_eq-Decides
 
 any_step : {X : Type 0} (p : X → Bool) (x : X) (xs : List X) → is_some (position p xs) ≡ list_any p xs →
@@ -93,12 +93,12 @@ place_push p seen xs x before after hit n had gives same number =
     let whole : map seen (xs ++ x ∷ []) ≡ map seen xs ++ seen x ∷ [] = map-append seen xs (x ∷ []) in
     here ∙ sym pushed ∙ ap (position p) (sym whole)
 
-none_case : (found : Option ℕ) (first number count : ℕ) → IfSome found (λ place. place < count) → first ≡ unwrap_or found number →
+pub none_case : (found : Option ℕ) (first number count : ℕ) → IfSome found (λ place. place < count) → first ≡ unwrap_or found number →
     number ≤ first → number ≡ count → found ≡ None
 none_case None first number count within is past whole = refl
 none_case (Some place) first number count within is past whole = absurd (omega arith)
 
-some_case : (found : Option ℕ) (first number : ℕ) → first ≡ unwrap_or found number → first < number → found ≡ Some first
+pub some_case : (found : Option ℕ) (first number : ℕ) → first ≡ unwrap_or found number → first < number → found ≡ Some first
 some_case None first number is below = absurd (omega arith)
 some_case (Some place) first number is below = ap Some (sym is)
 

@@ -6,8 +6,13 @@
 //! - `local_table`: the names of a body, with the count from which definitions without a name take theirs
 #![tactic(auto)]
 
+mod local_name;
+mod local_table;
 mod name_table;
 mod number;
+mod rising;
 
+pub use local_name::{LocalName, PlainName};
+pub use local_table::{Given, LocalTable};
 pub use name_table::NameTable;
 pub use number::Number;

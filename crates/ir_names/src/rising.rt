@@ -1,0 +1,54 @@
+//! Numbers that rise, and a search among them.
+
+ghost use Rattle.std.specs.Prelude.{◌≡◌, ℕ, ◌<◌, [], ◌∷◌, ◌++◌, length, nat_eq, position, slice_index, OnErr, OnOk};
+
+use crate::number::Number;
+use rc_base::NoMemory;
+use std::alloc::Global;
+use std::marker::Model;
+
+/// Numbers, each above those before it.
+#[derive(Drop)]
+pub struct Rising<'s> {
+    numbers: Vec<Number<'s>>,
+}
+
+impl<'s> Model for Rising<'s> {
+    ghost use Rattle.std.specs.Prelude.{ℕ, List};
+    ghost use Rattle.std.specs.Coded.{coded_list, coded_ℕ};
+    ghost use Rattle.ir_names.specs.Rising.{Rises};
+
+    ghost Value = { List ℕ };
+
+    ghost coded = { coded_list coded_ℕ };
+
+    ghost view = { λ rising. rising.numbers.items };
+
+    ghost invariant = { λ rising. Rises rising.numbers.items };
+}
+
+impl<'s> Rising<'s> {
+    pub fn new(alloc: Global) -> Self
+        ensures { result ≡ [] }
+    {
+        Rising {
+            numbers: Vec::new(alloc),
+        }
+    }
+
+    /// The place of the number, from 0.
+    pub fn place(&self, number: &Number<'_>) -> Option<usize>
+        ensures { result ≡ position (nat_eq number.now) self.now }
+    {
+        self.numbers.binary_search(number).ok()
+    }
+
+    pub fn push(&mut self, number: Number<'s>) -> Result<(), NoMemory>
+        requires { (place : ℕ) → place < length self.old → slice_index self.old place < number }
+        ensures ok { OnOk result (self.new ≡ self.old ++ number.entry ∷ []) }
+        ensures err { OnErr result (self.new ≡ self.old) }
+    {
+        self.numbers.push(number)?;
+        Ok(())
+    }
+}
