@@ -19,11 +19,11 @@ use Rattle.ir_names.specs.LocalName.{local_eq}
 use Rattle.ir_names.specs.LocalPlaces.{GivesPlace, HasPlaces, place_of}
 use Rattle.ir_names.specs.LocalTable.{count_of, defined, given, has, is_below, past}
 use Rattle.ir_names.specs.NameTable.{GivesNumber, number_of}
-use Rattle.ir_names.proofs.Tables.{bytes_equiv, none_case, position_any, position_push, some_case, within_some}
+use Rattle.ir_names.proofs.Tables.{bytes_equiv, none_case, position_any, position_push, some_case, some_or_none, within_some}
 
 -- ---- names
 
-local_refl : (a : LocalName) → local_eq a a ≡ true
+pub local_refl : (a : LocalName) → local_eq a a ≡ true
 local_refl (Number a) = nat_eq_equiv.refl a
 local_refl (Plain a) = bytes_equiv.refl a
 
@@ -64,16 +64,12 @@ apart (Number other) number above = grind (arith, nat_tests)
 apart (Plain name) number above = refl
 
 -- no name is a number from the count on
-none_above : (names : List LocalName) (number : ℕ) → count_of names ≤ number → list_any (local_eq (Number number)) names ≡ false
+pub none_above : (names : List LocalName) (number : ℕ) → count_of names ≤ number → list_any (local_eq (Number number)) names ≡ false
 none_above [] number above = refl
 none_above (first ∷ names) number above =
     let here = apart first number (omega arith) in
     let rest = none_above names number (omega arith) in
     grind (arith, common_steps)
-
-pub some_or_none : {X : Type 0} (found : Option X) → is_some found ≡ false → found ≡ None
-some_or_none None none = refl
-some_or_none (Some place) none = absurd (false≢true (sym none))
 
 pub no_place_above : (names : List LocalName) (number : ℕ) → count_of names ≤ number → position (local_eq (Number number)) names ≡ None
 no_place_above names number above =
@@ -151,7 +147,7 @@ module _ (names : List LocalName) (plain : BTreeMap (Bor (List ℕ)) ℕ) (risin
       pub plain_new : has names (Plain name) ≡ false
       plain_new =
           has_none names (Plain name)
-              (none_case (position (local_eq (Plain name)) names) first place (length names) (within_some (local_eq (Plain name)) names (position (local_eq (Plain name)) names) refl) plain_is more whole)
+          (none_case (position (local_eq (Plain name)) names) first place (length names) (within_some (local_eq (Plain name)) names (position (local_eq (Plain name)) names) refl) plain_is more whole)
 
       pub plain_places : (after : BTreeMap (Bor (List ℕ)) ℕ) → GivesNumber plain after name place → HasPlaces (names ++ Plain name ∷ []) after rising places below count
       plain_places after gives = record {
@@ -179,7 +175,7 @@ module _ (names : List LocalName) (plain : BTreeMap (Bor (List ℕ)) ℕ) (risin
       pub below_new : has names (Number number) ≡ false
       below_new =
           has_none names (Number number)
-              (none_case (position (local_eq (Number number)) names) first place (length names) (within_some (local_eq (Number number)) names (position (local_eq (Number number)) names) refl) below_is more whole)
+          (none_case (position (local_eq (Number number)) names) first place (length names) (within_some (local_eq (Number number)) names (position (local_eq (Number number)) names) refl) below_is more whole)
 
       pub below_places : number < count_of names → (after : BTreeMap ℕ ℕ) → GivesPlace below after number place → HasPlaces (names ++ Number number ∷ []) plain rising places after count
       below_places under after gives = record {
@@ -203,9 +199,9 @@ module _ (names : List LocalName) (plain : BTreeMap (Bor (List ℕ)) ℕ) (risin
     rising_under index within = ⊎_elim
         (λ less. less)
         (λ more.
-            let other = get_or rising index 0 in
-            let there = rising_has other (position_any (nat_eq other) rising ∙ any_at rising index within) in
-            absurd (false≢true (sym (none_above names other (omega arith)) ∙ there)))
+        let other = get_or rising index 0 in
+        let there = rising_has other (position_any (nat_eq other) rising ∙ any_at rising index within) in
+        absurd (false≢true (sym (none_above names other (omega arith)) ∙ there)))
         (cases_lt (get_or rising index 0) number)
 
     pub next_places : (place : ℕ) → place ≡ length names → HasPlaces (names ++ Number number ∷ []) plain (rising ++ number ∷ []) (places ++ place ∷ []) below (number + 1)
@@ -214,8 +210,8 @@ module _ (names : List LocalName) (plain : BTreeMap (Bor (List ℕ)) ℕ) (risin
       number_at = λ other.
           ap (λ found. option_or (option_map (λ index. get_or (places ++ place ∷ []) index 0) found) (get nat_cmp below other)) (position_push (nat_eq other) rising number)
           ∙ next_place (position (nat_eq other) rising) (get nat_cmp below other) places place (length rising) (nat_eq other number)
-              (rw holds.paired (within_some (nat_eq other) rising (position (nat_eq other) rising) refl)) (sym holds.paired)
-              (λ same. holds.number_at other ∙ no_place_above names other (let is : other ≡ number = grind (arith, nat_tests) in omega arith))
+          (rw holds.paired (within_some (nat_eq other) rising (position (nat_eq other) rising) refl)) (sym holds.paired)
+          (λ same. holds.number_at other ∙ no_place_above names other (let is : other ≡ number = grind (arith, nat_tests) in omega arith))
           ∙ ap (λ before. option_or before (if nat_eq other number then Some place else None)) (holds.number_at other)
           ∙ ap (λ next. option_or (position (local_eq (Number other)) names) (if nat_eq other number then Some next else None)) whole
           ∙ sym (position_push (local_eq (Number other)) names (Number number));

@@ -15,16 +15,16 @@ place_at : (numbers : List ℕ) (number place : ℕ) → Rises numbers → place
     position (nat_eq number) numbers ≡ Some place
 place_at numbers number place rises within is =
     let first : position_or_len (nat_eq number) numbers ≡ place =
-        position_or_len_is (nat_eq number) numbers place 0 (omega arith)
-            (λ before less. let above = rises before place less within in grind (arith, nat_tests)) (λ _. grind (arith, nat_tests)) in
+    position_or_len_is (nat_eq number) numbers place 0 (omega arith)
+    (λ before less. let above = rises before place less within in grind (arith, nat_tests)) (λ _. grind (arith, nat_tests)) in
     grind (arith, common_steps, nat_tests)
 
 no_place : (numbers : List ℕ) (number : ℕ) → ((place : ℕ) → place < length numbers → get_or numbers place 0 ≢ number) →
     position (nat_eq number) numbers ≡ None
 no_place numbers number none =
     let first : position_or_len (nat_eq number) numbers ≡ length numbers =
-        position_or_len_is (nat_eq number) numbers (length numbers) 0 (omega arith)
-            (λ before less. let other = none before less in grind (arith, nat_tests)) (λ past. absurd (omega arith)) in
+    position_or_len_is (nat_eq number) numbers (length numbers) 0 (omega arith)
+    (λ before less. let other = none before less in grind (arith, nat_tests)) (λ past. absurd (omega arith)) in
     grind (arith, common_steps, nat_tests)
 
 pub rises_push : (numbers : List ℕ) (number : ℕ) → Rises numbers → ((place : ℕ) → place < length numbers → get_or numbers place 0 < number) →
@@ -40,9 +40,9 @@ found_case : (numbers : List ℕ) (number : ℕ) (found : Result ℕ ℕ) → Ri
 found_case numbers number (Ok place) rises at = sym (place_at numbers number place rises at.0 at.1)
 found_case numbers number (Err place) rises at =
     sym (no_place numbers number (λ other within same. absurd (⊎_elim
-        (λ (before : other < place). omega (arith, at.1 other before))
-        (λ (past : place ≤ other). omega (arith, at.2 other past within))
-        (cases_lt other place))))
+    (λ (before : other < place). omega (arith, at.1 other before))
+    (λ (past : place ≤ other). omega (arith, at.2 other past within))
+    (cases_lt other place))))
 
 -- a binary search finds the number's place
 pub searched_place : (numbers : List ℕ) (number : ℕ) (found : Result ℕ ℕ) → Rises numbers →

@@ -1,5 +1,6 @@
 -- The first place of a name in a list, and tables that have it.
 use Rattle.std.proofs.Common.{eqb, ltb, ◌≤◌, ◌<◌, length-append, ◌≡◌, ℕ, ◌+◌, List, [], ◌∷◌, ◌++◌, ◌∙◌, length, Bool, true, false, Option, Some, None, IfSome, cond, refl, ap, sym, arith, map, position, bytes_eq, if◌then◌else◌, is_some, slice_get, get_or, Bor}
+use Rattle.std.proofs.lemmas.Bool.{false≢true}
 use Rattle.std.proofs.lemmas.Bool.Decides.{nat_tests}
 use Rattle.std.proofs.lemmas.Grind.{common_steps}
 use Rattle.std.proofs.lemmas.List.Folds.{position_or_len_push}
@@ -141,3 +142,32 @@ module _ (before after : BTreeMap (Bor (List ℕ)) ℕ) (names more : List (Bor 
 
   pub new_given : seen more ≡ given (seen names) name.now
   new_given = pushed_seen ∙ sym (given_new (seen names) name.now lacked)
+
+push_new : {X : Type 0} (p : X → Bool) (xs : List X) (x : X) → position p xs ≡ None → p x ≡ true → position p (xs ++ x ∷ []) ≡ Some (length xs)
+push_new p xs x none hit =
+    position_push p xs x ∙ ap (λ found. option_or found (if p x then Some (length xs) else None)) none ∙ ap (λ b. if b then Some (length xs) else None) hit
+
+push_kept : {X : Type 0} (p : X → Bool) (xs : List X) (x : X) (place : ℕ) → position p xs ≡ Some place → position p (xs ++ x ∷ []) ≡ Some place
+push_kept p xs x place some = position_push p xs x ∙ ap (λ found. option_or found (if p x then Some (length xs) else None)) some
+
+pub some_or_none : {X : Type 0} (found : Option X) → is_some found ≡ false → found ≡ None
+some_or_none None none = refl
+some_or_none (Some place) none = absurd (false≢true (sym none))
+
+-- a list to which a name is added unless it is there
+module _ {X : Type 0} (eq : X → X → Bool) (itself : (x : X) → eq x x ≡ true) where
+  abbrev added : List X → X → List X
+  added xs x = if list_any (eq x) xs then xs else xs ++ x ∷ []
+
+  pub added_new : (xs : List X) (x : X) → list_any (eq x) xs ≡ false → position (eq x) (added xs x) ≡ Some (length xs)
+  added_new xs x none =
+      ap (λ there. position (eq x) (if there then xs else xs ++ x ∷ [])) none
+      ∙ push_new (eq x) xs x (some_or_none (position (eq x) xs) (position_any (eq x) xs ∙ none)) (itself x)
+
+  kept_case : (there : Bool) (xs : List X) (x other : X) (place : ℕ) → position (eq other) xs ≡ Some place →
+      position (eq other) (if there then xs else xs ++ x ∷ []) ≡ Some place
+  kept_case true xs x other place some = some
+  kept_case false xs x other place some = push_kept (eq other) xs x place some
+
+  pub added_kept : (xs : List X) (x other : X) (place : ℕ) → position (eq other) xs ≡ Some place → position (eq other) (added xs x) ≡ Some place
+  added_kept xs x other place some = kept_case (list_any (eq x) xs) xs x other place some

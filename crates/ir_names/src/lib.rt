@@ -4,8 +4,10 @@
 //! - `number`: numbers without upper limit
 //! - `local_name`: a name of a body, which is a number or plain
 //! - `local_table`: the names of a body, with the count from which definitions without a name take theirs
+//! - `laws`: that names keep their places, and that the count is free
 #![tactic(auto)]
 
+pub mod laws;
 mod local_name;
 mod local_table;
 mod name_table;

@@ -9,6 +9,7 @@
 //! - `lexer`, `modules`: the tokens of texts, and their items or first faults
 //! - `types`: the types of texts, with their parts
 //! - `calls`: the calls of the C library and of POSIX threads, and formats of `printf`
+//! - `names`: the names of items and of a body, definition by definition
 //! - `accesses`: which accesses overlap, and which conflict
 //! - `choices`: which thread a chooser takes
 //! - `turns`, `courses`: machines and the run of a small module, turn by turn
@@ -33,6 +34,8 @@ mod courses;
 mod lexer;
 #[cfg(test)]
 mod modules;
+#[cfg(test)]
+mod names;
 #[cfg(test)]
 mod operations;
 #[cfg(test)]

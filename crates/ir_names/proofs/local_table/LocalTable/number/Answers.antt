@@ -8,4 +8,4 @@ pub returns-in-Plain-clause-within : goal.returns-in-Plain-clause-within
 returns-in-Plain-clause-within c =
     let name = c.text.result.now in
     within_some (local_eq (Plain name)) c.args.self.now c.copied.result
-        (c.copied.ensures ∙ c.get.ensures.value ∙ c.self.invariant.plain_at name ∙ ap (position (local_eq (Plain name))) c.self.view_is)
+    (c.copied.ensures ∙ c.get.ensures.value ∙ c.self.invariant.plain_at name ∙ ap (position (local_eq (Plain name))) c.self.view_is)
