@@ -1,5 +1,5 @@
 -- What the parts of a table of local names are after a definition.
-use Rattle.std.proofs.Common.{◌≡◌, ◌≢◌, ℕ, ◌+◌, ◌<◌, ◌≤◌, Bool, true, false, List, [], ◌∷◌, ◌++◌, ◌∙◌, length, Bor, Option, Some, None, IfSome, is_some, cond, refl, ap, sym, arith, nat_eq, nat_lt, bytes_eq, position, get_or, if◌then◌else◌, max, zero, suc, ⊎_elim, length-append}
+use Rattle.std.proofs.Common.{◌≡◌, ℕ, ◌+◌, ◌<◌, ◌≤◌, Bool, true, false, List, [], ◌∷◌, ◌++◌, ◌∙◌, length, Bor, Option, Some, None, IfSome, is_some, refl, ap, sym, arith, nat_eq, bytes_eq, position, get_or, if◌then◌else◌, max, zero, suc, ⊎_elim, length-append}
 use Rattle.std.proofs.lemmas.List.{get_or_append_left, get_or_push}
 use Rattle.std.proofs.lemmas.Bool.{cases_lt, false≢true}
 use Rattle.std.proofs.lemmas.Bool.Decides.{nat_tests}
@@ -16,7 +16,7 @@ use Rattle.ir_names.specs.declared.local_name.LocalName.{LocalName}
 use Rattle.ir_names.specs.declared.local_name.LocalName.TheVariants.{Number, Plain}
 use Rattle.ir_names.specs.declared.local_table.Given.TheVariants.{Fresh, Duplicate, Below}
 use Rattle.ir_names.specs.LocalName.{local_eq}
-use Rattle.ir_names.specs.LocalPlaces.{GivesPlace, HasPlaces, place_of}
+use Rattle.ir_names.specs.LocalPlaces.{GivesPlace, HasPlaces}
 use Rattle.ir_names.specs.LocalTable.{count_of, defined, given, has, is_below, past}
 use Rattle.ir_names.specs.NameTable.{GivesNumber, number_of}
 use Rattle.ir_names.proofs.Tables.{bytes_equiv, none_case, position_any, position_push, some_case, some_or_none, within_some}

@@ -1,11 +1,10 @@
 -- The number that digits spell, digit by digit.
-use Rattle.std.proofs.Common.{⊎_elim, cond, ◌≡◌, ℕ, ◌+◌, ◌-◌, ◌*◌, ◌^◌, ◌<◌, ◌≤◌, List, [], ◌∷◌, ◌++◌, length, min, take, get_or, ap, sym, ◌∙◌, arith, nat_le, nat_lt, refl, zero, suc}
+use Rattle.std.proofs.Common.{⊎_elim, cond, ◌≡◌, ℕ, ◌+◌, ◌-◌, ◌*◌, ◌^◌, ◌<◌, ◌≤◌, List, [], ◌∷◌, ◌++◌, length, min, take, get_or, ap, sym, ◌∙◌, arith, zero, suc}
 use Rattle.std.proofs.Math.Seq.{take-length}
 use Rattle.std.proofs.lemmas.Bool.{cases_lt, le-ltb, lt-ltb}
 use Rattle.std.proofs.lemmas.Bool.Decides.{nat_tests}
 use Rattle.std.proofs.lemmas.List.{take_more}
 use Rattle.std.proofs.lemmas.List.Sums.{fold-append}
-use Rattle.std.specs.Cmp.{nat_cmp_is}
 use Rattle.std.specs.Ordering.{nat_cmp}
 use Rattle.ir_names.specs.Number.{digit_at, digit_of, front_of, lead_of, value_of}
 

@@ -1,4 +1,3 @@
-use Rattle.std.proofs.Common.{arith, sym, ◌∙◌, ap}
 use Rattle.ir_names.proofs.Numbers.{lead_low, lead_high, lead_next}
 use Rattle.ir_names.proofs.number.lead_of.Goals as goal
 

@@ -1,10 +1,7 @@
-use Rattle.std.proofs.Common.{arith, length, ◌≡◌, ◌∙◌, [], ◌∷◌, ◌++◌, ap, subst, sym, unwrap_or, ◌<◌, is_some}
+use Rattle.std.proofs.Common.{arith, length, ◌≡◌, ◌∙◌, [], ◌∷◌, ◌++◌, ap, subst, sym, ◌<◌, is_some}
 use Rattle.std.proofs.lemmas.Bool.{lt-ltb}
-use Rattle.ir_names.specs.LocalPlaces.{HasPlaces}
 use Rattle.ir_names.specs.LocalTable.{count_of, defined, given}
-use Rattle.ir_names.specs.NameTable.{GivesNumber, number_of}
-use Rattle.ir_names.specs.declared.local_name.LocalName.{LocalName}
-use Rattle.ir_names.specs.declared.local_name.LocalName.TheVariants.{Number, Plain}
+use Rattle.ir_names.specs.declared.local_name.LocalName.TheVariants.{Number}
 use Rattle.ir_names.proofs.LocalTables as locals
 use Rattle.ir_names.proofs.Tables.{some_or_none}
 use Rattle.ir_names.proofs.local_table.LocalTable.define_below.Goals as goal

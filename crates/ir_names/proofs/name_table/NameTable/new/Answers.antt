@@ -1,4 +1,3 @@
-use Rattle.std.proofs.Common.{refl, sym, ap, bytes_eq, rules}
 use Rattle.ir_names.proofs.Tables.{no_names}
 use Rattle.ir_names.proofs.name_table.NameTable.new.Goals as goal
 
