@@ -1,1 +1,4 @@
+pub mod Item
+pub mod Phrase
 pub mod Segment
+pub mod Statement

@@ -8,6 +8,14 @@
 //! - `laws`: that nothing is lost
 #![tactic(auto)]
 
+mod item;
+mod parameter;
+mod phrase;
 mod segment;
+mod statement;
 
+pub use item::{Item, ItemForm, Items};
+pub use parameter::{Parameter, Parameters};
+pub use phrase::{Phrases, inside};
 pub use segment::{Cut, Segment, Segments};
+pub use statement::{Statement, Statements};

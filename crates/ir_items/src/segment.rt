@@ -42,7 +42,6 @@ pub struct Segments<'m, 's> {
 
 impl<'m, 's> Model for Segments<'m, 's> {
     ghost use Rattle.std.specs.Prelude.{List, drop};
-
     ghost use Rattle.ir_items.specs.Segment.{Segment};
 
     ghost Value = { List Segment };
