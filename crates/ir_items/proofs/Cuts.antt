@@ -1,10 +1,10 @@
 -- The walk over the segments of a list of nodes.
-use Rattle.std.proofs.Common.{◌≡◌, ℕ, zero, suc, ◌+◌, ◌≤◌, Bool, true, false, List, [], ◌∷◌, ◌++◌, length, take, drop, refl, sym, ◌∙◌, ap, arith, cond, add-one}
+use Rattle.std.proofs.Common.{◌≡◌, ℕ, zero, suc, ◌+◌, Bool, true, false, List, [], ◌∷◌, take, drop, refl, cond, add-one}
 use Rattle.std.proofs.lemmas.List.{drop-drop}
 use Rattle.ir_read.specs.declared.grammar.Rule.{Rule}
 use Rattle.ir_read.specs.Node.{Told}
 use Rattle.ir_items.specs.declared.segment.Cut.{Cut}
-use Rattle.ir_items.specs.Segment.{Segment, Split, begins, nodes_of, rest_len, segments_of, split_behind, split_by}
+use Rattle.ir_items.specs.Segment.{Split, begins, rest_len, segments_of, split_behind, split_by}
 
 -- the split by its length
 abbrev split_at : Cut → List Told → ℕ → Split

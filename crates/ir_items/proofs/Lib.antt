@@ -1,2 +1,4 @@
 mod Cuts
+mod PhraseLaws
 mod Phrasing
+mod SegmentLaws

@@ -1,9 +1,9 @@
 -- The walk over the phrases of a list of nodes.
-use Rattle.std.proofs.Common.{◌≡◌, ℕ, zero, suc, ◌+◌, Bool, true, false, List, [], ◌∷◌, length, take, drop, refl, sym, ◌∙◌, ap, cond, add-one, arith}
+use Rattle.std.proofs.Common.{◌≡◌, ℕ, zero, suc, ◌+◌, Bool, true, false, List, [], ◌∷◌, length, take, drop, refl, sym, ◌∙◌, ap, cond, add-one}
 use Rattle.std.specs.List.{prefix_len}
 use Rattle.std.proofs.lemmas.List.{drop-drop, nil_from_length}
 use Rattle.ir_read.specs.Node.{Told}
-use Rattle.ir_items.specs.Phrase.{Phrased, depth_behind, is_mark, open_len, phrased, phrased_by, phrases_of}
+use Rattle.ir_items.specs.Phrase.{depth_behind, is_mark, open_len, phrased, phrased_by, phrases_of}
 
 -- what is left of the open phrases, by its length
 pub phrased_is : (depth : ℕ) (nodes : List Told) →
@@ -73,7 +73,7 @@ phrases_from nodes start marks n first behind counted is len =
     let left = drop start nodes in
     let here : drop (prefix_len is_mark left) left ≡ first ∷ behind = rw (← counted) is in
     let rest : drop (start + (marks + (n + 1))) nodes ≡ drop n behind =
-      rw (← drop-drop (marks + (n + 1)) start nodes, ← drop-drop (n + 1) marks left, is, add-one) refl in
+    rw (← drop-drop (marks + (n + 1)) start nodes, ← drop-drop (n + 1) marks left, is, add-one) refl in
     behind_marks left
     ∙ ap phrases_of here
     ∙ first_phrase first behind n (unmarked left first behind here) len

@@ -1,6 +1,6 @@
 -- What the items of a module are, and what they have. Of each item the first node is given and those behind it. What an
 -- item lacks stands for its first node, so that all is said of every list of nodes.
-use Rattle.std.specs.Prelude.{ℕ, ◌+◌, ◌-◌, Bool, true, false, not, ◌&&◌, List, [], ◌∷◌, length, take, drop, get_or, bytes_eq, codes, Option, if◌then◌else◌}
+use Rattle.std.specs.Prelude.{ℕ, ◌+◌, ◌-◌, Bool, true, false, List, [], ◌∷◌, length, take, drop, get_or, bytes_eq, codes, Option, if◌then◌else◌}
 use Rattle.std.specs.List.{prefix_len, slice_get}
 use Rattle.ir_read.specs.declared.terminal.Terminal.{Terminal}
 use Rattle.ir_read.specs.declared.terminal.Terminal.TheVariants as t

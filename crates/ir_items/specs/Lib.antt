@@ -1,4 +1,5 @@
 pub mod Item
+pub mod Laws
 pub mod Phrase
 pub mod Segment
 pub mod Statement

@@ -1,5 +1,5 @@
 -- Lists of nodes, cut before the nodes with which something begins.
-use Rattle.std.specs.Prelude.{ℕ, zero, suc, Bool, true, false, not, ◌&&◌, ◌||◌, List, [], ◌∷◌, ◌++◌, if◌then◌else◌}
+use Rattle.std.specs.Prelude.{ℕ, zero, suc, Bool, true, false, not, ◌&&◌, ◌||◌, List, [], ◌∷◌, if◌then◌else◌}
 use Rattle.ir_read.specs.declared.grammar.Rule.{Rule}
 use Rattle.ir_read.specs.declared.grammar.Rule.TheVariants as r
 use Rattle.ir_read.specs.Node.{Told}
@@ -65,8 +65,3 @@ segments_of cut (node ∷ nodes) =
 abbrev pub rest_len : Cut → Rule → List Told → ℕ
 rest_len cut previous [] = zero
 rest_len cut previous (node ∷ nodes) = if begins cut previous node.rule then zero else suc (rest_len cut node.rule nodes)
-
--- the nodes of segments, one behind the other
-abbrev pub nodes_of : List Segment → List Told
-nodes_of [] = []
-nodes_of (segment ∷ segments) = (segment.first ∷ segment.rest) ++ nodes_of segments

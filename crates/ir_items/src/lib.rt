@@ -9,6 +9,7 @@
 #![tactic(auto)]
 
 mod item;
+pub mod laws;
 mod parameter;
 mod phrase;
 mod segment;
