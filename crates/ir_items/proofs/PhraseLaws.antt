@@ -2,6 +2,7 @@
 use Rattle.std.proofs.Common.{◌≡◌, ℕ, zero, suc, Bool, true, false, List, [], ◌∷◌, ◌++◌, length, ap, arith, refl, subst, sym, ◌∙◌}
 use Rattle.std.specs.List.{AllByRecursion}
 use Rattle.ir_read.specs.Node.{Told}
+use Rattle.ir_items.proofs.Phrasing.{mark_opens_none}
 use Rattle.ir_items.specs.Laws.{IsPhrase, joined, kept_by, without_marks}
 use Rattle.ir_items.specs.Phrase.{Phrased, depth_behind, is_mark, open_len, phrased, phrased_by, phrases_of}
 
@@ -14,10 +15,6 @@ record ArePhrased (depth : ℕ) (nodes : List Told) (split : Phrased) : Type 0 w
 nothing_open : (rest : List Told) → open_len zero rest ≡ length rest → rest ≡ []
 nothing_open [] is = refl
 nothing_open (node ∷ rest) is = absurd (omega (arith, is))
-
-mark_opens_none : (node : Told) → is_mark node ≡ true → depth_behind zero node ≡ zero
-unfolding depth_behind
-mark_opens_none node is = rw is refl
 
 -- behind a mark nothing is open
 none_left : (node : Told) (nodes : List Told) (split : Phrased) → is_mark node ≡ true →

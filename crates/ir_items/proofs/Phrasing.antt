@@ -20,7 +20,7 @@ phrased_is zero (node ∷ nodes) = none_open (is_mark node) (depth_behind zero n
     none_open false depth node nodes = refl
 phrased_is (suc depth) (node ∷ nodes) = rw (phrased_is (depth_behind (suc depth) node) nodes) refl
 
-mark_opens_none : (node : Told) → is_mark node ≡ true → depth_behind zero node ≡ zero
+pub mark_opens_none : (node : Told) → is_mark node ≡ true → depth_behind zero node ≡ zero
 unfolding depth_behind
 mark_opens_none node is = rw is refl
 

@@ -53,6 +53,7 @@ parts_others r.KeyTo = true
 parts_others r.KeyLabel = true
 parts_others r.Edge = true
 parts_others r.CloseEdge = true
+parts_others r.Branch = true
 parts_others r.OpenCases = true
 parts_others r.Cases = true
 parts_others r.OpenArguments = true

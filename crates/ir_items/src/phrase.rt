@@ -161,6 +161,7 @@ fn parts_others(rule: Rule) -> bool
             | Rule::KeyLabel
             | Rule::Edge
             | Rule::CloseEdge
+            | Rule::Branch
             | Rule::OpenCases
             | Rule::Cases
             | Rule::OpenArguments
