@@ -7,7 +7,7 @@ use ir_read::read_module;
 use std::test::Fail;
 
 /// Items, the lines of a `main` behind them, and the number of nodes.
-static WITH_MAIN: [(&str, &str, usize); 42] = [
+static WITH_MAIN: [(&str, &str, usize); 43] = [
     // What no check refuses.
     ("", "ret i32 0 ; \"open", 10),
     (
@@ -99,6 +99,11 @@ static WITH_MAIN: [(&str, &str, usize); 42] = [
         28,
     ),
     // Types and literals that don't fit.
+    (
+        "",
+        "%l = load i32, ptr @zz\n%m = add i64 %l, 1\nret i32 0",
+        22,
+    ),
     (
         "@g = global i32 0\n",
         "%x = add i32 null, 1\n%y = add i32 %no, 1\nret i32 0",
@@ -209,5 +214,18 @@ fn whole_texts_are_read(rt: HostRuntime) -> Result<(), Fail> {
         let found = read_module(rt.alloc(), text.as_bytes()).map(|found| found.nodes.len());
         assert_eq!(rt; found, Ok(*nodes), "{text}");
     }
+    Ok(())
+}
+
+/// Each array is four nodes, and the rest five.
+#[test]
+fn deep_types_are_read(rt: HostRuntime) -> Result<(), Fail> {
+    let alloc = rt.alloc();
+    let front = "[1 x ".repeat(alloc, 100_000)?;
+    let back = "]".repeat(alloc, 100_000)?;
+    let text = format!(in alloc; "@g = global {front}i8{back} zeroinitializer")?;
+    assert!(rt; text.len() <= MOST_BYTES);
+    let found = read_module(alloc, text.as_bytes()).map(|found| found.nodes.len());
+    assert_eq!(rt; found, Ok(400_005));
     Ok(())
 }

@@ -8,7 +8,7 @@ use std::test::Fail;
 type Row = (TokenKind, &'static str, u32, u32);
 
 /// A text, its tokens, and where no token begins behind them.
-static TEXTS: [(&str, &[Row], Option<LexError>); 52] = [
+static TEXTS: [(&str, &[Row], Option<LexError>); 54] = [
     // Nothing but what lies between tokens.
     ("", &[], None),
     (" \t\r\n;\n; c", &[], None),
@@ -270,6 +270,8 @@ static TEXTS: [(&str, &[Row], Option<LexError>); 52] = [
         &[(Word, "x", 0, 1)],
         Some(LexError { line: 1, at: 1 }),
     ),
+    ("\u{c}", &[], Some(LexError { line: 1, at: 0 })),
+    ("\n\u{0}", &[], Some(LexError { line: 2, at: 1 })),
 ];
 
 fn is_row(answer: Result<Option<Token<'_>>, LexError>, row: &Row) -> bool {

@@ -3,7 +3,7 @@
 //! They stand in a crate of their own, since a crate with tests is proved twice.
 //!
 //! - `lexer`: the tokens of texts, and where none begins
-//! - `refusals`: texts with their first faults
+//! - `marks`, `faults`: texts with their first faults
 //! - `accepted`: texts that are read, with the number of their nodes
 //! - `programs`: whole programs, with the number of their nodes
 //! - `texts`: how texts are put together
@@ -12,10 +12,12 @@
 #[cfg(test)]
 mod accepted;
 #[cfg(test)]
+mod faults;
+#[cfg(test)]
 mod lexer;
 #[cfg(test)]
-mod programs;
+mod marks;
 #[cfg(test)]
-mod refusals;
+mod programs;
 #[cfg(test)]
 mod texts;
