@@ -1,4 +1,5 @@
 pub mod Cause
+pub mod Escapes
 pub mod Grammar
 pub mod Laws
 pub mod Machine

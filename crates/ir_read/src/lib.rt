@@ -6,6 +6,7 @@
 //! - `skip`: what stands between the tokens of an item without a meaning
 //! - `wants`, `machine`: the stack of wanted rules, and the machine that reads a token at a time
 //! - `error`, `cause`: why a token is refused
+//! - `escapes`: the bytes that strings spell
 //! - `name`, `node`, `read`: what is kept, and the calls that read
 //! - `raw_type`: the types that nodes spell
 //! - `type_laws`: that what the grammar takes as a type spells one, and that it is found
@@ -17,6 +18,7 @@ mod call_rows;
 mod cause;
 mod constant_rows;
 mod error;
+mod escapes;
 mod grammar;
 mod item_rows;
 pub mod laws;
@@ -36,6 +38,7 @@ mod wants;
 mod words;
 
 pub use error::ModuleError;
+pub use escapes::bytes_of_string;
 pub use grammar::Rule;
 pub use machine::{Machine, Refusal};
 pub use name::{bare_name, is_numbered, name_of};
