@@ -6,10 +6,7 @@
 //! - `outside`: reading and writing, each call failing in turn, gates, words and counted steps
 //! - `operations`: the values of operations on words at the edges of each width, and the sizes of kinds
 //! - `copies`: lists, inputs and turns
-//! - `lexer`, `modules`: the tokens of texts, and their items or first faults
-//! - `types`: the types of texts, with their parts
 //! - `calls`: the calls of the C library and of POSIX threads, and formats of `printf`
-//! - `names`: the names of items and of a body, definition by definition
 //! - `accesses`: which accesses overlap, and which conflict
 //! - `choices`: which thread a chooser takes
 //! - `turns`, `courses`: machines and the run of a small module, turn by turn
@@ -31,12 +28,6 @@ mod copies;
 #[cfg(test)]
 mod courses;
 #[cfg(test)]
-mod lexer;
-#[cfg(test)]
-mod modules;
-#[cfg(test)]
-mod names;
-#[cfg(test)]
 mod operations;
 #[cfg(test)]
 mod outside;
@@ -44,7 +35,5 @@ mod outside;
 mod printed;
 #[cfg(test)]
 mod turns;
-#[cfg(test)]
-mod types;
 #[cfg(test)]
 mod verdicts;

@@ -1,10 +1,14 @@
-//! Texts of modules, with the tokens, the nodes or the first fault that their reader finds, worked out by hand.
+//! Texts of modules, with the tokens, the nodes or the first fault that their reader finds, and what views of the nodes
+//! show, worked out by hand.
 //!
 //! They stand in a crate of their own, since a crate with tests is proved twice.
 //!
 //! - `lexer`: the tokens of texts, and where none begins
 //! - `marks`, `faults`: texts with their first faults
 //! - `accepted`: texts that are read, with the number of their nodes
+//! - `items`: modules with their items, statements and phrases
+//! - `names`: the names of items and of a body, definition by definition
+//! - `types`: types with their forms and parts
 //! - `programs`: whole programs, with the number of their nodes
 //! - `texts`: how texts are put together
 #![tactic(auto)]
@@ -14,10 +18,16 @@ mod accepted;
 #[cfg(test)]
 mod faults;
 #[cfg(test)]
+mod items;
+#[cfg(test)]
 mod lexer;
 #[cfg(test)]
 mod marks;
 #[cfg(test)]
+mod names;
+#[cfg(test)]
 mod programs;
 #[cfg(test)]
 mod texts;
+#[cfg(test)]
+mod types;

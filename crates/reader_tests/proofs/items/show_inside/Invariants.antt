@@ -1,5 +1,5 @@
 use Rattle.std.proofs.Common.{length}
-use Rattle.item_tests.proofs.items.show_phrases.Given as goal
+use Rattle.reader_tests.proofs.items.show_inside.Given as goal
 
 abbrev pub decreases-loop-phrase : goal.decreases-loop-phrase
 decreases-loop-phrase l = length l.phrases
