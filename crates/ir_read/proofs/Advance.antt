@@ -54,7 +54,7 @@ pub row_is_wanted : (rows : List (Bor (List Rule))) (place count : ℕ) (row : B
     false ≡ is_nothing (flat_map (λ row. row.now) (reverse rows))
 row_is_wanted rows place count row lt is some same =
     let split : reverse (take count rows) ≡ get_or rows place row ∷ reverse (take place rows) =
-        rw (is, take_more rows place row lt) (reverse-append (take place rows) (get_or rows place row ∷ [])) in
+    rw (is, take_more rows place row lt) (reverse-append (take place rows) (get_or rows place row ∷ [])) in
     let wanted : is_nothing (flat_map (λ row. row.now) (reverse (take count rows))) ≡ false =
-        rw split (something_is_wanted (get_or rows place row).now (flat_map (λ row. row.now) (reverse (take place rows))) some) in
+    rw split (something_is_wanted (get_or rows place row).now (flat_map (λ row. row.now) (reverse (take place rows))) some) in
     rw (sym same) (sym wanted)

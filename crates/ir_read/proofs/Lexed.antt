@@ -2,7 +2,7 @@
 use Rattle.std.proofs.Common.{◌≡◌, ℕ, ◌+◌, ◌-◌, ◌≤◌, Bool, true, false, cond, List, [], ◌∷◌, ◌++◌, All, length, take, drop, suc, refl, arith}
 use Rattle.std.specs.Prelude.{◌&&◌, ◌||◌, ◌==◌, count_by, slice_index}
 use Rattle.std.specs.Char.{is_ascii_digit, is_ascii_alphanumeric}
-use Rattle.std.specs.List.{list_all, list_any}
+use Rattle.std.specs.List.{list_all}
 use Rattle.std.proofs.lemmas.Bool.Decides.{nat_tests}
 use Rattle.std.proofs.lemmas.List.{length-append, take-append-le}
 use Rattle.std.proofs.Math.Seq.{take-length}
@@ -13,7 +13,7 @@ use Rattle.ir_lex.specs.Laws.{IsTokenOf, line_at}
 use Rattle.ir_lex.specs.Lexer.{Lexed, ahead}
 use Rattle.ir_lex.specs.Token.{Lexeme as Token, ends, is_some_of, is_token}
 use Rattle.ir_read.specs.declared.terminal.Terminal.TheVariants as t
-use Rattle.ir_read.specs.Terminal.{fits_word, is_name_byte, is_plain, is_plain_or_quote, global_class, number_class}
+use Rattle.ir_read.specs.Terminal.{fits_word, is_name_byte, is_plain_or_quote, global_class, number_class}
 use Rattle.ir_read.specs.Text.{last_line}
 use Rattle.ir_read.proofs.Decimals.{short_fits}
 

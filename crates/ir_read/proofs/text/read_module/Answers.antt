@@ -1,6 +1,4 @@
-use Rattle.std.proofs.Common.{rules, ◌≡◌, ◌∙◌, sym}
-use Rattle.ir_lex.specs.Laws.{line_at}
-use Rattle.ir_read.specs.Read.{lexeme_of, put}
+use Rattle.std.proofs.Common.{rules, ◌∙◌, sym}
 use Rattle.ir_read.specs.Text.{last_line}
 use Rattle.ir_read.proofs.Lexed.{next_token}
 use Rattle.ir_read.proofs.Reading.{text_fails, text_goes_on}
