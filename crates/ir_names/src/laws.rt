@@ -13,7 +13,8 @@ pub fn items_keep_places()
     ensures new { (names : List (List ℕ)) (name : List ℕ) → list_any (bytes_eq name) names ≡ false →
         position (bytes_eq name) (given names name) ≡ Some (length names) }
     ensures kept { (names : List (List ℕ)) (name other : List ℕ) (place : ℕ) →
-        position (bytes_eq other) names ≡ Some place → position (bytes_eq other) (given names name) ≡ Some place }
+        position (bytes_eq other) names ≡ Some place →
+        position (bytes_eq other) (given names name) ≡ Some place }
 {}
 
 /// A new name of a body has the next place, and no name loses its place.
@@ -21,10 +22,12 @@ pub fn locals_keep_places()
     ensures new { (names : List Name) (name : Name) → has names name ≡ false →
         position (local_eq name) (defined names name) ≡ Some (length names) }
     ensures kept { (names : List Name) (name other : Name) (place : ℕ) →
-        position (local_eq other) names ≡ Some place → position (local_eq other) (defined names name) ≡ Some place }
+        position (local_eq other) names ≡ Some place →
+        position (local_eq other) (defined names name) ≡ Some place }
 {}
 
 /// No name is a number from the count on, so what a definition without a name is given is new.
 pub fn count_is_free()
-    ensures { (names : List Name) (number : ℕ) → count_of names ≤ number → has names (Number number) ≡ false }
+    ensures { (names : List Name) (number : ℕ) → count_of names ≤ number →
+        has names (Number number) ≡ false }
 {}

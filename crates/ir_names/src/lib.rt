@@ -3,6 +3,7 @@
 //! - `name_table`: names with the number of each
 //! - `number`: numbers without upper limit
 //! - `local_name`: a name of a body, which is a number or plain
+//! - `rising`: numbers that rise, and a search among them
 //! - `local_table`: the names of a body, with the count from which definitions without a name take theirs
 //! - `laws`: that names keep their places, and that the count is free
 #![tactic(auto)]

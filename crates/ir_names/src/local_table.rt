@@ -30,8 +30,8 @@ pub enum Given {
 
 /// The names of a body's arguments, blocks and registers, in the order in which they were first defined.
 ///
-/// A number that is taken in its turn is kept apart from one below the count, which a good module doesn't have: the
-/// former rise, so that a definition without a name is compared with none.
+/// Numbers that are taken in their turn rise, so that a definition without a name is compared with none.
+/// Those below the count, which a good module doesn't have, are kept apart.
 #[derive(Drop)]
 pub struct LocalTable<'s> {
     names: Vec<LocalName<'s>>,
@@ -51,7 +51,8 @@ impl<'s> Model for LocalTable<'s> {
 
     ghost view = { λ table. table.names.items };
 
-    ghost invariant = { λ table. HasPlaces table.names.items table.plain table.rising table.places.items table.below table.count };
+    ghost invariant = { λ table.
+        HasPlaces table.names.items table.plain table.rising table.places.items table.below table.count };
 }
 
 /// The place that the number has, or else the one that it is given here.

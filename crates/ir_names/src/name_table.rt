@@ -31,12 +31,13 @@ impl<'s> Model for NameTable<'s> {
     ghost view = { λ table. map (λ name. name.now) table.names.items };
 
     ghost invariant = { λ table.
-        ((name : List ℕ) → number_of table.numbers name ≡ position (bytes_eq name) (map (λ given. given.now) table.names.items))
+        ((name : List ℕ) → number_of table.numbers name
+        ≡ position (bytes_eq name) (map (λ given. given.now) table.names.items))
         × IsDistinct bytes_eq (map (λ given. given.now) table.names.items) };
 }
 
-/// The number that the name has, or else the one that it is given here. A new name, as all names of a good module are,
-/// is looked up once.
+/// The number that the name has, or else the one that it is given here. A new name, as all names of a
+/// good module are, is looked up once.
 pub(crate) fn number_or_give<'s>(
     numbers: &mut BTreeMap<&'s [u8], usize>,
     name: &'s [u8],

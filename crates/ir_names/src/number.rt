@@ -159,8 +159,8 @@ fn lead_with(lead: u128, digit: u8, other: u8) -> u128
         .min(MOST)
 }
 
-/// How far the number that `digits` spell is ahead of the one that `others` spell. Once the lead can't change any more
-/// no further digit is read: so a short number is told from a long one at once.
+/// How far the number that `digits` spell is ahead of the one that `others` spell. Once the lead can't
+/// change any more no further digit is read: so a short number is told from a long one at once.
 fn lead_of(digits: &[u8], others: &[u8]) -> u128
     ensures { result ≡ lead_of (value_of digits.now) (value_of others.now) }
 {
