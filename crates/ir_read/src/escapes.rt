@@ -52,20 +52,8 @@ fn whole_at(begun: Begun, byte: u8) -> Option<u8>
     ensures { result ≡ spec.whole_at begun byte }
 {
     match begun {
-        Begun::Nothing => {
-            if byte == b'\\' {
-                None
-            } else {
-                Some(byte)
-            }
-        }
-        Begun::Backslash => {
-            if byte == b'\\' {
-                Some(byte)
-            } else {
-                None
-            }
-        }
+        Begun::Nothing => { if byte == b'\\' { None } else { Some(byte) } }
+        Begun::Backslash => { if byte == b'\\' { Some(byte) } else { None } }
         Begun::High(high) => Some(high.wrapping_mul(16).wrapping_add(digit_of(byte))),
     }
 }
