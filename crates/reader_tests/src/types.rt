@@ -1,5 +1,6 @@
 //! Types in texts of modules: their forms, how many nodes they have, and those of the parts, worked out by hand.
 
+use ir_lex::MOST_BYTES;
 use ir_read::{Node, RawType, TypeForm, read_module};
 use std::test::Fail;
 
@@ -37,7 +38,9 @@ fn types_have_their_parts(rt: HostRuntime) -> Result<(), Fail> {
     ];
     for (text, wanted) in cases {
         let module = format!(in rt.alloc(); "@g = global {text} zeroinitializer")?;
+        assert!(rt; module.len() <= MOST_BYTES);
         let found = read_module(rt.alloc(), module.as_bytes()).expect(&rt, "a module");
+        assert!(rt; found.nodes.len() > 3);
         // `@g`, `=` and `global` come before the type
         let nodes = &found.nodes[3..];
         assert_eq!(rt; shown(nodes), wanted, "{text}");
