@@ -1,0 +1,4 @@
+pub mod Extent
+pub mod Laws
+pub mod Layout
+pub mod Walk
