@@ -8,7 +8,8 @@
 //! - `accepted`: texts that are read, with the number of their nodes
 //! - `items`: modules with their items, statements and phrases
 //! - `names`: the names of items and of a body, definition by definition
-//! - `types`: types with their forms and parts
+//! - `module_names`: modules with the first fault of their names and shapes
+//! - `types`, `layouts`: types with their forms and parts, and what they take in memory
 //! - `programs`: whole programs, with the number of their nodes
 //! - `texts`: how texts are put together
 #![tactic(auto)]
@@ -20,9 +21,13 @@ mod faults;
 #[cfg(test)]
 mod items;
 #[cfg(test)]
+mod layouts;
+#[cfg(test)]
 mod lexer;
 #[cfg(test)]
 mod marks;
+#[cfg(test)]
+mod module_names;
 #[cfg(test)]
 mod names;
 #[cfg(test)]

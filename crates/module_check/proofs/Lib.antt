@@ -1,0 +1,4 @@
+mod Edges
+mod Faults
+mod Phases
+mod Standing

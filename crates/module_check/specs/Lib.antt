@@ -1,0 +1,13 @@
+pub mod Fault
+pub mod Laws
+pub mod Signature
+pub mod MainFunction
+pub mod ItemNames
+pub mod Callee
+pub mod BodyNames
+pub mod Within
+pub mod Shape
+pub mod BlockPlace
+pub mod Predecessors
+pub mod Phis
+pub mod Names
