@@ -5,6 +5,7 @@ use external_calls::ExternalCall;
 use instruction_check::Cause::{BadShape, Duplicate};
 use instruction_check::{Cause, GlobalRole, LocalRole};
 use ir_items::{Item, Items};
+use ir_lex::MOST_BYTES;
 use ir_read::{Node, read_module};
 use ir_types::{Kind, Width};
 use module_check::{Fault, check_names, main_of, name_body, name_items};
@@ -251,6 +252,7 @@ static BODIES: [(&str, Option<(u32, Cause)>); 45] = [
 fn texts_have_their_first_faults_of_names_and_shapes(rt: HostRuntime) -> Result<(), Fail> {
     let alloc = rt.alloc();
     for (text, expected) in WHOLE {
+        assert!(rt; text.len() <= MOST_BYTES);
         let Ok(found) = read_module(alloc, text.as_bytes()) else {
             return Err(Fail::new("a text is refused"));
         };
@@ -265,6 +267,7 @@ fn bodies_have_their_first_faults_of_names_and_shapes(rt: HostRuntime) -> Result
     let alloc = rt.alloc();
     for (lines, expected) in BODIES {
         let text = with_main(alloc, "", lines)?;
+        assert!(rt; text.len() <= MOST_BYTES);
         let Ok(found) = read_module(alloc, text.as_bytes()) else {
             return Err(Fail::new("a text is refused"));
         };
