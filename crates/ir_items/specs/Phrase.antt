@@ -25,16 +25,20 @@ abbrev pub is_left_paren : Terminal → Bool
 is_left_paren t.LeftParen = true
 is_left_paren _ = false
 
--- A type, a list of initial values, a constant expression, or the types that a call writes before its callee. A constant
--- expression is opened by its word.
+-- A type, a constant expression, or the types that a call writes before its callee. A constant expression is opened by its
+-- word. The brackets of a list of initial values are phrases of their own, so that a walk over them needs no way back.
 unfoldable pub opens : Rule → Terminal → Bool
 opens r.Type terminal = is_bracket terminal
 opens r.Aggregate terminal = is_bracket terminal
-opens r.PackedBrace terminal = true
-opens r.Initializer terminal = is_bracket terminal || is_expression terminal
+opens r.Initializer terminal = is_expression terminal
 opens r.Operand terminal = is_expression terminal
 opens r.Callee terminal = is_left_paren terminal
 opens _ terminal = false
+
+-- behind the `<` of a packed type its `{` opens too; behind the one of a list of initial values nothing is open
+unfoldable pub opens_within : ℕ → Rule → Bool
+opens_within (suc depth) r.PackedBrace = true
+opens_within _ _ = false
 
 -- within a phrase a closing bracket closes what was opened last
 unfoldable pub closes : Terminal → Bool
@@ -68,7 +72,7 @@ is_mark node = parts_others node.rule
 unfoldable pub depth_behind : ℕ → Told → ℕ
 depth_behind depth node =
     if is_mark node then depth
-    else if opens node.rule node.terminal then depth + 1
+    else if opens node.rule node.terminal || opens_within depth node.rule then depth + 1
     else if closes node.terminal then depth - 1
     else depth
 

@@ -98,7 +98,7 @@ fn depth_behind(depth: usize, node: &Node<'_>) -> usize
 {
     if parts_others(node.rule) {
         depth
-    } else if opens(node.rule, node.terminal) {
+    } else if opens(node.rule, node.terminal) || opens_within(depth, node.rule) {
         depth + 1
     } else if closes(node.terminal) {
         depth.saturating_sub(1)
@@ -107,19 +107,25 @@ fn depth_behind(depth: usize, node: &Node<'_>) -> usize
     }
 }
 
-/// Whether the node begins a type, a list of initial values, a constant expression, or the types that a call writes.
+/// Whether the node begins a type, a constant expression, or the types that a call writes.
 #[tactic(auto, unfolding(crate::specs::Phrase::opens))]
 fn opens(rule: Rule, terminal: Terminal) -> bool
     ensures { result ≡ spec.opens rule terminal }
 {
     match rule {
         Rule::Type | Rule::Aggregate => is_bracket(terminal),
-        Rule::PackedBrace => true,
-        Rule::Initializer => is_bracket(terminal) || is_expression(terminal),
-        Rule::Operand => is_expression(terminal),
+        Rule::Initializer | Rule::Operand => is_expression(terminal),
         Rule::Callee => matches!(terminal, Terminal::LeftParen),
         _ => false,
     }
+}
+
+/// Whether it is the `{` behind the `<` of a packed type. That of a list of initial values opens nothing.
+#[tactic(auto, unfolding(crate::specs::Phrase::opens_within))]
+fn opens_within(depth: usize, rule: Rule) -> bool
+    ensures { result ≡ spec.opens_within depth rule }
+{
+    depth > 0 && matches!(rule, Rule::PackedBrace)
 }
 
 fn is_bracket(terminal: Terminal) -> bool

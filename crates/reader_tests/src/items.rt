@@ -15,13 +15,13 @@ static TEXTS: [(&str, &str); 6] = [
          @\"t u\" = global { i32, ptr } { i32 -1, ptr getelementptr inbounds (i8, ptr @g, i64 2) }\n\
          @n = global [2 x <{ i1 }>] [<{ i1 }> <{ i1 true }>, <{ i1 }> zeroinitializer]",
         "1 struct %pair | { i32 [ 2 x ptr ] } : i32 ; [ 2 x ptr ] ;\n\
-         2 struct %packed | < { i8 %pair } > : { i8 %pair } ;\n\
+         2 struct %packed | < { i8 %pair } > : { ; i8 ; %pair ; } ;\n\
          4 global @g | i32 | 0\n\
          5 constant @s | [ 2 x i8 ] : 2 ; i8 ; | c\"a\\00\"\n\
          6 global @\"t u\" | { i32 ptr } : i32 ; ptr ; | \
-         { i32 -1 ptr getelementptr ( i8 ptr @g i64 2 ) } : i32 ; -1 ; ptr ; getelementptr ( i8 ptr @g i64 2 ) ;\n\
+         { | i32 | -1 | ptr | getelementptr ( i8 ptr @g i64 2 ) : i8 ; ptr ; @g ; i64 ; 2 ; | }\n\
          7 global @n | [ 2 x < { i1 } > ] : 2 ; < { i1 } > ; | \
-         [ < { i1 } > < { i1 true } > < { i1 } > zeroinitializer ] : < { i1 } > ; < { i1 true } > ; < { i1 } > ; zeroinitializer ;\n",
+         [ | < { i1 } > : { ; i1 ; } ; | < | { | i1 | true | } | > | < { i1 } > : { ; i1 ; } ; | zeroinitializer | ]\n",
     ),
     (
         "declare void @f()\ndeclare !callback !1 i32 @printf(ptr noundef, i64 %n, ...) #1\ndeclare ptr @g(...)\n\
