@@ -1,7 +1,7 @@
 //! The way through the nodes of a type, from the first to the last.
 
 ghost use Rattle.std.specs.Prelude.{◌≡◌, false, OnOk};
-ghost use Rattle.ir_layout.specs.Extent.{kept, kept_extents};
+ghost use Rattle.ir_layout.specs.Extent.{kept};
 ghost use Rattle.ir_layout.specs.Walk as spec;
 
 use crate::extent::{Extent, Overflow, bytes_of, empty, word};
@@ -57,7 +57,7 @@ impl Walk {
         structs: &S,
         node: &Node<'_>,
     ) -> Result<(), AllocError>
-        ensures { OnOk result (self.new ≡ spec.stepped (kept overflow) (kept_extents overflow (S.extents structs.now)) node.now self.old) }
+        ensures { OnOk result (self.new ≡ spec.stepped (kept overflow) (S.extents structs.now overflow) node.now self.old) }
     {
         match node.terminal {
             Terminal::Int => self.put(overflow, word(bytes_of(bits_of(node.text)))),

@@ -1,5 +1,5 @@
 use Rattle.std.proofs.Common.{◌≡◌, drop}
-use Rattle.ir_layout.specs.Extent.{kept, kept_extents}
+use Rattle.ir_layout.specs.Extent.{kept}
 use Rattle.ir_layout.specs.Walk.{begun, walked}
 use Rattle.ir_layout.proofs.layout.walked.Given as goal
 
@@ -7,5 +7,5 @@ use Rattle.ir_layout.proofs.layout.walked.Given as goal
 abbrev pub invariant-loop-node : goal.invariant-loop-node
 invariant-loop-node g l =
     let keep = kept l.overflow in
-    let named = kept_extents l.overflow (g.S.Structs.extents l.structs) in
+    let named = g.S.Structs.extents l.structs l.overflow in
     walked keep named (drop l.node-index l.nodes) l.walk ≡ walked keep named l.nodes begun

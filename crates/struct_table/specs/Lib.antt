@@ -1,0 +1,10 @@
+pub mod Named
+pub mod Rounds
+pub mod Settling
+pub mod Members
+pub mod StructTable
+pub mod Graph
+pub mod Search
+pub mod Parts
+pub mod Faults
+pub mod Laws
