@@ -8,10 +8,10 @@ use Rattle.ir_types.specs.declared.word.Word.{Word}
 use Rattle.ir_read.specs.declared.terminal.Terminal.{Terminal}
 use Rattle.ir_read.specs.declared.terminal.Terminal.TheVariants as t
 use Rattle.ir_read.specs.Node.{Told}
-use Rattle.instruction_check.specs.declared.cause.Cause.TheVariants.{TypeMismatch}
-use Rattle.instruction_check.specs.declared.cause.Found.{Found}
+use Rattle.module_fault.specs.declared.cause.Cause.TheVariants.{TypeMismatch}
+use Rattle.module_fault.specs.declared.cause.Found.{Found}
 use Rattle.instruction_check.specs.declared.operand.Typed.{Typed}
-use Rattle.instruction_check.specs.Cause.{and_one, lesser, unless}
+use Rattle.module_fault.specs.Cause.{and_one, lesser, unless}
 use Rattle.instruction_check.specs.Literals.{is_integer, literal_in}
 use Rattle.instruction_check.specs.Operand.{block_of, operand, typed}
 use Rattle.instruction_check.specs.Phrases.{first, second, third, behind, behind_two, kind_in}

@@ -1,14 +1,12 @@
-pub mod Cause
 pub mod Literals
 pub mod Operations
 pub mod Phrases
 pub mod Roles
 pub mod Scope
+pub mod Expressions
 pub mod Operand
 pub mod Values
 pub mod Control
 pub mod Results
-pub mod Callee
-pub mod Arguments
-pub mod Call
 pub mod Memory
+pub mod Address

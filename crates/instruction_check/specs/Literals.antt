@@ -15,9 +15,9 @@ use Rattle.ir_read.specs.declared.terminal.Terminal.{Terminal}
 use Rattle.ir_read.specs.declared.terminal.Terminal.TheVariants as t
 use Rattle.ir_read.specs.Node.{Told}
 use Rattle.ir_read.specs.Terminal.{literal_of}
-use Rattle.instruction_check.specs.declared.cause.Cause.TheVariants.{TypeMismatch}
-use Rattle.instruction_check.specs.declared.cause.Found.{Found}
-use Rattle.instruction_check.specs.Cause.{unless}
+use Rattle.module_fault.specs.declared.cause.Cause.TheVariants.{TypeMismatch}
+use Rattle.module_fault.specs.declared.cause.Found.{Found}
+use Rattle.module_fault.specs.Cause.{unless}
 
 -- the lowest bits of a number
 abbrev pub word_of : Width → ℕ → Word

@@ -4,8 +4,8 @@ use Rattle.ir_types.specs.declared.instruction.Inst.{Inst}
 use Rattle.ir_types.specs.declared.instruction.Inst.TheVariants as insts
 use Rattle.ir_types.specs.declared.word.Kind.TheVariants.{Ptr}
 use Rattle.ir_read.specs.Node.{Told}
-use Rattle.instruction_check.specs.declared.cause.Found.{Found}
-use Rattle.instruction_check.specs.Cause.{lesser}
+use Rattle.module_fault.specs.declared.cause.Found.{Found}
+use Rattle.module_fault.specs.Cause.{lesser}
 use Rattle.instruction_check.specs.Operand.{typed}
 use Rattle.instruction_check.specs.Phrases.{first, behind, behind_two, kind_in}
 use Rattle.instruction_check.specs.Roles.{unless_same}

@@ -5,14 +5,14 @@ use Rattle.ir_types.specs.declared.instruction.Operand.TheVariants as operands
 use Rattle.ir_types.specs.declared.word.Kind.{Kind}
 use Rattle.ir_types.specs.declared.word.Kind.TheVariants.{Int, Ptr}
 use Rattle.ir_types.specs.declared.word.Width.TheVariants.{W1, W8, W16, W32, W64}
-use Rattle.instruction_check.specs.declared.cause.Cause.{Cause}
-use Rattle.instruction_check.specs.declared.cause.Cause.TheVariants.{UnknownName, TypeMismatch, Unsupported}
-use Rattle.instruction_check.specs.declared.cause.Found.{Found}
+use Rattle.module_fault.specs.declared.cause.Cause.{Cause}
+use Rattle.module_fault.specs.declared.cause.Cause.TheVariants.{UnknownName, TypeMismatch, Unsupported}
+use Rattle.module_fault.specs.declared.cause.Found.{Found}
 use Rattle.instruction_check.specs.declared.roles.GlobalRole.{GlobalRole}
 use Rattle.instruction_check.specs.declared.roles.GlobalRole.TheVariants as globals
 use Rattle.instruction_check.specs.declared.roles.LocalRole.{LocalRole}
 use Rattle.instruction_check.specs.declared.roles.LocalRole.TheVariants as locals
-use Rattle.instruction_check.specs.Cause.{lesser, unless}
+use Rattle.module_fault.specs.Cause.{lesser, unless}
 use Rattle.instruction_check.specs.Literals.{constant}
 
 abbrev pub code_of : Kind → ℕ

@@ -8,11 +8,11 @@ use Rattle.ir_types.specs.declared.word.Kind.TheVariants.{Int}
 use Rattle.ir_types.specs.declared.word.Width.TheVariants.{W1}
 use Rattle.ir_types.specs.Kind.{width_of}
 use Rattle.ir_read.specs.Node.{Told}
-use Rattle.instruction_check.specs.declared.cause.Cause.TheVariants.{TypeMismatch}
-use Rattle.instruction_check.specs.declared.cause.Found.{Found}
+use Rattle.module_fault.specs.declared.cause.Cause.TheVariants.{TypeMismatch}
+use Rattle.module_fault.specs.declared.cause.Found.{Found}
 use Rattle.instruction_check.specs.declared.operations.Cast.{Cast}
 use Rattle.instruction_check.specs.Scope.{Scope}
-use Rattle.instruction_check.specs.Cause.{lesser, unless}
+use Rattle.module_fault.specs.Cause.{lesser, unless}
 use Rattle.instruction_check.specs.Literals.{is_integer}
 use Rattle.instruction_check.specs.Operand.{operand, typed}
 use Rattle.instruction_check.specs.Operations.{can_cast, converted, predicate_of}

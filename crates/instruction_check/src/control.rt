@@ -3,7 +3,6 @@
 ghost use Rattle.std.specs.Prelude.{◌≡◌, ◌∷◌, IfOk, MatchOption};
 ghost use Rattle.instruction_check.specs.Control as spec;
 
-use crate::cause::{Cause, Found, lesser, unless};
 use crate::literals::{is_integer, literal_in};
 use crate::operand::Typed;
 use crate::phrases::{Phrase, kind_in, take_kind, take_pair};
@@ -13,6 +12,7 @@ use crate::values::CONDITION;
 use ir_items::Phrases;
 use ir_read::{Node, Terminal};
 use ir_types::{Inst, Kind, List, Operand, Word};
+use module_fault::{Cause, Found, lesser, unless};
 use rc_base::NoMemory;
 use std::alloc::Global;
 
@@ -34,15 +34,19 @@ fn is_void(phrase: &[Node<'_>]) -> bool
     }
 }
 
-impl<'s> Scope<'_, 's> {
+impl<'s> Scope<'_, '_, 's> {
     /// `BLOCK`, or `i1 OPERAND, BLOCK, BLOCK`.
-    pub fn branch(&self, phrases: &mut Phrases<'_, 's>) -> Found<Inst>
-        ensures { result ≡ spec.branch self.now phrases.old }
+    pub fn branch(
+        &self,
+        alloc: Global,
+        phrases: &mut Phrases<'_, 's>,
+    ) -> Result<Found<Inst>, NoMemory>
+        ensures { IfOk result (λ found. found ≡ spec.branch self.now phrases.old) }
     {
         match phrases.next() {
-            Some(first) if is_name(first) => self.branch_to(first),
-            Some(first) => self.branch_if(kind_in(first), phrases),
-            None => self.branch_if(Kind::Ptr, phrases),
+            Some(first) if is_name(first) => Ok(self.branch_to(first)),
+            Some(first) => self.branch_if(alloc, kind_in(first), phrases),
+            None => self.branch_if(alloc, Kind::Ptr, phrases),
         }
     }
 
@@ -56,31 +60,36 @@ impl<'s> Scope<'_, 's> {
         }
     }
 
-    fn branch_if(&self, kind: Kind, phrases: &mut Phrases<'_, 's>) -> Found<Inst>
-        ensures { result ≡ spec.branch_if self.now kind phrases.old }
+    fn branch_if(
+        &self,
+        alloc: Global,
+        kind: Kind,
+        phrases: &mut Phrases<'_, 's>,
+    ) -> Result<Found<Inst>, NoMemory>
+        ensures { IfOk result (λ found. found ≡ spec.branch_if self.now kind phrases.old) }
     {
-        let c = self.take_operand(kind, phrases);
+        let c = self.take_operand(alloc, kind, phrases)?;
         let yes = self.take_block(phrases);
         let no = self.take_block(phrases);
         let fits = unless_same(kind, CONDITION);
-        Found {
+        Ok(Found {
             value: Inst::BranchIf {
                 c: c.value,
                 yes: yes.value,
                 no: no.value,
             },
             cause: lesser(fits, lesser(c.cause, lesser(yes.cause, no.cause))),
-        }
+        })
     }
 
     /// `void`, or `TYPE OPERAND`, as the function gives it.
-    pub fn ret(&self, phrases: &mut Phrases<'_, 's>) -> Found<Inst>
-        ensures { result ≡ spec.ret self.now phrases.old }
+    pub fn ret(&self, alloc: Global, phrases: &mut Phrases<'_, 's>) -> Result<Found<Inst>, NoMemory>
+        ensures { IfOk result (λ found. found ≡ spec.ret self.now phrases.old) }
     {
         match phrases.next() {
-            Some(first) if is_void(first) => self.ret_void(),
-            Some(first) => self.ret_value(kind_in(first), phrases),
-            None => self.ret_value(Kind::Ptr, phrases),
+            Some(first) if is_void(first) => Ok(self.ret_void()),
+            Some(first) => self.ret_value(alloc, kind_in(first), phrases),
+            None => self.ret_value(alloc, Kind::Ptr, phrases),
         }
     }
 
@@ -94,18 +103,23 @@ impl<'s> Scope<'_, 's> {
         }
     }
 
-    fn ret_value(&self, kind: Kind, phrases: &mut Phrases<'_, 's>) -> Found<Inst>
-        ensures { result ≡ spec.ret_value self.now kind phrases.old }
+    fn ret_value(
+        &self,
+        alloc: Global,
+        kind: Kind,
+        phrases: &mut Phrases<'_, 's>,
+    ) -> Result<Found<Inst>, NoMemory>
+        ensures { IfOk result (λ found. found ≡ spec.ret_value self.now kind phrases.old) }
     {
         let body = self.body;
-        let given = self.take_operand(kind, phrases);
+        let given = self.take_operand(alloc, kind, phrases)?;
         let fits = same_result(body.result, Some(kind));
-        Found {
+        Ok(Found {
             value: Inst::Ret {
                 value: Some(given.value),
             },
             cause: lesser(unless(fits, Cause::TypeMismatch), given.cause),
-        }
+        })
     }
 
     /// `TYPE OPERAND, label BLOCK` and the cases, of an integer type.
@@ -116,8 +130,9 @@ impl<'s> Scope<'_, 's> {
     ) -> Result<Found<Inst>, NoMemory>
         ensures { IfOk result (λ found. found ≡ spec.switch self.now phrases.old) }
     {
-        let given = self.take_typed(phrases);
-        self.switch_on(alloc, given, phrases)
+        let given = self.take_typed(alloc, phrases)?;
+        let found = self.switch_on(alloc, given, phrases)?;
+        Ok(found)
     }
 
     fn switch_on(
@@ -214,7 +229,7 @@ impl<'s> Scope<'_, 's> {
         let mut edges = Vec::new(alloc);
         let mut cause = None;
         while let Some((value, block)) = take_pair(phrases) {
-            let edge = self.edge_at(kind, value, block);
+            let edge = self.edge_at(alloc, kind, value, block)?;
             edges.push(edge.value)?;
             cause = lesser(cause, edge.cause);
         }
@@ -225,15 +240,21 @@ impl<'s> Scope<'_, 's> {
     }
 
     /// `OPERAND, BLOCK`.
-    fn edge_at(&self, kind: Kind, value: &[Node<'s>], block: &[Node<'s>]) -> Found<(u32, Operand)>
-        ensures { result ≡ spec.edge_at self.now kind value.now block.now }
+    fn edge_at(
+        &self,
+        alloc: Global,
+        kind: Kind,
+        value: &[Node<'s>],
+        block: &[Node<'s>],
+    ) -> Result<Found<(u32, Operand)>, NoMemory>
+        ensures { IfOk result (λ found. found ≡ spec.edge_at self.now kind value.now block.now) }
     {
-        let given = self.operand(kind, value);
+        let given = self.operand(alloc, kind, value)?;
         let block = self.block(block);
-        Found {
+        Ok(Found {
             value: (block.value, given.value),
             cause: lesser(given.cause, block.cause),
-        }
+        })
     }
 }
 

@@ -1,10 +1,9 @@
-//! The check of an instruction of a module: what it is, with all of its names resolved, and what is wrong with it.
+//! The check of an instruction of a module: what it is, with all of its names resolved, and what is wrong with it. Calls
+//! have a crate of their own.
 //!
-//! - `arguments`: the arguments of a call
-//! - `call`: calls of functions and of external calls
-//! - `callee`: what a call calls
-//! - `cause`: the causes of faults, and what is found beside one
+//! - `address`: the instructions that make addresses
 //! - `control`: the instructions that end a block, and those that join blocks
+//! - `expressions`: the addresses that constant expressions spell
 //! - `literals`: the kinds that types spell, and the constants that literals spell
 //! - `memory`: the instructions that read and write memory at a pointer
 //! - `operand`: the operands that phrases spell
@@ -16,11 +15,9 @@
 //! - `values`: the instructions that compute a value
 #![tactic(auto)]
 
-mod arguments;
-mod call;
-mod callee;
-mod cause;
+mod address;
 mod control;
+mod expressions;
 mod literals;
 mod memory;
 mod operand;
@@ -31,8 +28,10 @@ mod roles;
 mod scope;
 mod values;
 
-pub use cause::{Cause, Found, lesser, unless};
+pub use expressions::expression;
 pub use literals::{constant, kind_of, literal};
-pub use results::result_of;
-pub use roles::{GlobalRole, LocalRole};
-pub use scope::{BodyNames, ModuleNames, Scope, Signature};
+pub use operations::{Cast, binary_of, cast_of};
+pub use phrases::{Phrase, kind_in, take_pair};
+pub use results::{call_result, result_of};
+pub use roles::{GlobalRole, LocalRole, same_kind, same_result, unless_same};
+pub use scope::{BodyNames, ModuleNames, Scope, Signature, StringText};

@@ -3,9 +3,9 @@
 ghost use Rattle.std.specs.Prelude.{◌≡◌};
 ghost use Rattle.instruction_check.specs.Literals as spec;
 
-use crate::cause::{Cause, Found, unless};
 use ir_read::{Node, Terminal};
 use ir_types::{Kind, Operand, Width, Word};
+use module_fault::{Cause, Found, unless};
 
 /// The lowest bits of a number, as a constant of the kind.
 pub fn constant(kind: Kind, number: u64) -> Operand

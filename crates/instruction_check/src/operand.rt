@@ -1,10 +1,10 @@
 //! The operands that phrases spell.
 
-ghost use Rattle.std.specs.Prelude.{◌≡◌};
+ghost use Rattle.std.specs.Prelude.{◌≡◌, IfOk};
 ghost use Rattle.instruction_check.specs.Operand as spec;
 ghost use Rattle.instruction_check.specs.Phrases.{behind, behind_two, first};
 
-use crate::cause::{Cause, Found, lesser};
+use crate::expressions::expression;
 use crate::literals::{constant, constant_of};
 use crate::phrases::take_kind;
 use crate::roles::{block, register, unless_same};
@@ -12,6 +12,9 @@ use crate::scope::{BodyNames, Scope};
 use ir_items::Phrases;
 use ir_read::{Node, Terminal};
 use ir_types::{Kind, Operand};
+use module_fault::{Cause, Found, lesser};
+use rc_base::NoMemory;
+use std::alloc::Global;
 
 /// An operand with the kind that is written before it.
 #[derive(Debug, Drop)]
@@ -31,16 +34,58 @@ pub fn pointer(kind: Kind, address: Found<u64>) -> Found<Operand>
     }
 }
 
-impl<'s> Scope<'_, 's> {
+/// Where no phrase is left.
+fn no_operand(kind: Kind) -> Found<Operand>
+    ensures { result ≡ spec.no_operand kind }
+{
+    Found {
+        value: constant(kind, 0),
+        cause: Some(Cause::TypeMismatch),
+    }
+}
+
+impl<'s> Scope<'_, '_, 's> {
     /// The operand of the kind that a phrase spells.
-    pub fn operand(&self, kind: Kind, phrase: &[Node<'s>]) -> Found<Operand>
-        ensures { result ≡ spec.operand self.now kind phrase.now }
+    pub fn operand(
+        &self,
+        alloc: Global,
+        kind: Kind,
+        phrase: &[Node<'s>],
+    ) -> Result<Found<Operand>, NoMemory>
+        ensures { IfOk result (λ found. found ≡ spec.operand self.now kind phrase.now) }
+    {
+        match phrase.first() {
+            Some(node) => self.operand_by(alloc, node.terminal, kind, phrase),
+            None => Ok(self.plain(kind, phrase)),
+        }
+    }
+
+    fn operand_by(
+        &self,
+        alloc: Global,
+        terminal: Terminal,
+        kind: Kind,
+        phrase: &[Node<'s>],
+    ) -> Result<Found<Operand>, NoMemory>
+        ensures { IfOk result (λ found. found ≡ spec.operand_by terminal self.now kind phrase.now) }
+    {
+        match terminal {
+            Terminal::GetElementPtr | Terminal::IntToPtr => {
+                let names = self.names;
+                let structs = self.structs;
+                let found = expression(alloc, names, structs, terminal, phrase)?;
+                Ok(pointer(kind, found))
+            }
+            _ => Ok(self.plain(kind, phrase)),
+        }
+    }
+
+    /// The same of one that is no constant expression.
+    fn plain(&self, kind: Kind, phrase: &[Node<'s>]) -> Found<Operand>
+        ensures { result ≡ spec.plain self.now kind phrase.now }
     {
         let Some(node) = phrase.first() else {
-            return Found {
-                value: constant(kind, 0),
-                cause: Some(Cause::TypeMismatch),
-            };
+            return no_operand(kind);
         };
         match node.terminal {
             Terminal::Local => self.register(kind, node),
@@ -64,31 +109,37 @@ impl<'s> Scope<'_, 's> {
     }
 
     /// Takes off an operand.
-    pub fn take_operand(&self, kind: Kind, phrases: &mut Phrases<'_, 's>) -> Found<Operand>
-        ensures operand { result ≡ spec.operand self.now kind (first phrases.old) }
+    pub fn take_operand(
+        &self,
+        alloc: Global,
+        kind: Kind,
+        phrases: &mut Phrases<'_, 's>,
+    ) -> Result<Found<Operand>, NoMemory>
+        ensures operand { IfOk result (λ found. found ≡ spec.operand self.now kind (first phrases.old)) }
         ensures rest { phrases.new ≡ behind phrases.old }
     {
         match phrases.next() {
-            Some(phrase) => self.operand(kind, phrase),
-            None => Found {
-                value: constant(kind, 0),
-                cause: Some(Cause::TypeMismatch),
-            },
+            Some(phrase) => self.operand(alloc, kind, phrase),
+            None => Ok(no_operand(kind)),
         }
     }
 
     /// Takes off a type and an operand of it.
-    pub fn take_typed(&self, phrases: &mut Phrases<'_, 's>) -> Typed
-        ensures typed { result ≡ spec.typed self.now phrases.old }
+    pub fn take_typed(
+        &self,
+        alloc: Global,
+        phrases: &mut Phrases<'_, 's>,
+    ) -> Result<Typed, NoMemory>
+        ensures typed { IfOk result (λ found. found ≡ spec.typed self.now phrases.old) }
         ensures rest { phrases.new ≡ behind_two phrases.old }
     {
         let kind = take_kind(phrases);
-        let found = self.take_operand(kind, phrases);
-        Typed {
+        let found = self.take_operand(alloc, kind, phrases)?;
+        Ok(Typed {
             kind,
             value: found.value,
             cause: found.cause,
-        }
+        })
     }
 
     /// Takes off a block's name.

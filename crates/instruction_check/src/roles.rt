@@ -3,10 +3,10 @@
 ghost use Rattle.std.specs.Prelude.{◌≡◌, ◌==◌};
 ghost use Rattle.instruction_check.specs.Roles as spec;
 
-use crate::cause::{Cause, Found, lesser, unless};
 use crate::literals::constant;
 use external_calls::ExternalCall;
 use ir_types::{Kind, Operand, Width};
+use module_fault::{Cause, Found, lesser, unless};
 
 /// What an `@` name stands for.
 #[derive(Clone, Copy, Debug, PartialEq, Eq)]

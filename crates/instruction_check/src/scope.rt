@@ -1,21 +1,38 @@
 //! Where the names of an instruction lead.
 
 ghost use Rattle.std.specs.Prelude.{◌≡◌};
+ghost use Rattle.instruction_check.specs.Phrases.{behind, first};
 ghost use Rattle.instruction_check.specs.Scope as spec;
 
-use crate::cause::Found;
 use crate::roles::{GlobalRole, LocalRole, block, global};
 use external_calls::Parameter;
+use ir_items::Phrases;
 use ir_names::{LocalName, LocalTable, NameTable};
 use ir_read::Node;
 use ir_types::{Kind, List};
+use module_fault::{Cause, Found};
 use std::marker::Model;
+use struct_table::StructTable;
 
 /// What a function takes and gives.
 #[derive(Debug, Drop)]
 pub struct Signature {
     pub parameters: List<Parameter>,
     pub result: Option<Kind>,
+}
+
+/// The text of a string, of which contracts see the bytes.
+#[derive(Drop)]
+pub struct StringText<'s> {
+    pub text: &'s [u8],
+}
+
+impl<'s> Model for StringText<'s> {
+    ghost use Rattle.std.specs.Prelude.{ℕ, List};
+
+    ghost Value = { List ℕ };
+
+    ghost view = { λ string. string.text.now };
 }
 
 /// The `@` names of a module, and what they stand for.
@@ -28,7 +45,7 @@ pub struct ModuleNames<'s> {
     pub addresses: List<u64>,
     /// By the number of the global: the text of the string that it holds, where it is a constant that holds one, and else
     /// nothing.
-    pub strings: List<&'s [u8]>,
+    pub strings: List<StringText<'s>>,
     /// By the number of the function.
     pub signatures: List<Signature>,
 }
@@ -63,6 +80,27 @@ impl ModuleNames<'_> {
         }
     }
 
+    /// Takes off the name of a global, and tells its address.
+    pub fn take_address(&self, phrases: &mut Phrases<'_, '_>) -> Found<u64>
+        ensures address { result ≡ spec.address_in self.now (first phrases.old) }
+        ensures rest { phrases.new ≡ behind phrases.old }
+    {
+        match phrases.next() {
+            Some(phrase) => self.address_in(phrase),
+            None => no_address(),
+        }
+    }
+
+    /// The address of the global that a phrase names.
+    fn address_in(&self, phrase: &[Node<'_>]) -> Found<u64>
+        ensures { result ≡ spec.address_in self.now phrase.now }
+    {
+        match phrase.first() {
+            Some(node) => self.address(node),
+            None => no_address(),
+        }
+    }
+
     fn address_of(&self, number: u32) -> u64
         ensures { result ≡ spec.address_of self.now number }
     {
@@ -71,6 +109,15 @@ impl ModuleNames<'_> {
             .get(number as usize)
             .copied()
             .unwrap_or(0)
+    }
+}
+
+fn no_address() -> Found<u64>
+    ensures { result ≡ spec.no_address }
+{
+    Found {
+        value: 0,
+        cause: Some(Cause::UnknownName),
     }
 }
 
@@ -95,15 +142,17 @@ impl<'s> BodyNames<'s> {
 }
 
 /// Where an instruction stands.
-pub struct Scope<'b, 's> {
+#[derive(Drop)]
+pub struct Scope<'b, 'm, 's> {
     pub names: &'b ModuleNames<'s>,
     pub body: &'b BodyNames<'s>,
+    pub structs: &'b StructTable<'m, 's>,
 }
 
-impl<'b, 's> Model for Scope<'b, 's> {
+impl<'b, 'm, 's> Model for Scope<'b, 'm, 's> {
     ghost use Rattle.instruction_check.specs.Scope.{Scope as Value_};
 
     ghost Value = { Value_ };
 
-    ghost view = { λ scope. record { names = scope.names.now; body = scope.body.now } };
+    ghost view = { λ scope. record { names = scope.names.now; body = scope.body.now; structs = scope.structs.now } };
 }

@@ -1,4 +1,3 @@
 mod Edges
-mod Faults
 mod Phases
 mod Standing

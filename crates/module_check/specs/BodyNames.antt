@@ -10,8 +10,8 @@ use Rattle.ir_names.specs.declared.local_table.Given.{Given}
 use Rattle.ir_names.specs.declared.local_table.Given.TheVariants.{Fresh, Duplicate, Below}
 use Rattle.ir_names.specs.LocalName.{local_of}
 use Rattle.ir_names.specs.LocalTable.{defined, given, name_given}
-use Rattle.instruction_check.specs.declared.cause.Cause.{Cause}
-use Rattle.instruction_check.specs.declared.cause.Cause.TheVariants as causes
+use Rattle.module_fault.specs.declared.cause.Cause.{Cause}
+use Rattle.module_fault.specs.declared.cause.Cause.TheVariants as causes
 use Rattle.instruction_check.specs.declared.roles.LocalRole.{LocalRole}
 use Rattle.instruction_check.specs.declared.roles.LocalRole.TheVariants.{Register, Block, Void}
 use Rattle.instruction_check.specs.declared.scope.ModuleNames.{ModuleNames}
@@ -19,7 +19,7 @@ use Rattle.instruction_check.specs.Literals.{kind_of}
 use Rattle.instruction_check.specs.Results.{result_of}
 use Rattle.module_check.specs.declared.body_names.NamedBody.{NamedBody}
 use Rattle.module_check.specs.Callee.{is_output}
-use Rattle.module_check.specs.Fault.{note}
+use Rattle.module_fault.specs.Fault.{note}
 use Rattle.module_check.specs.ItemNames.{counted, numbered}
 use Rattle.module_check.specs.Signature.{result_kind}
 

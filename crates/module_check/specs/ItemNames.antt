@@ -7,12 +7,12 @@ use Rattle.ir_items.specs.Item.{form_of, name_of}
 use Rattle.ir_items.specs.Segment.{Segment}
 use Rattle.ir_names.specs.NameTable.{given}
 use Rattle.external_calls.specs.Prototype.{by_name}
-use Rattle.instruction_check.specs.declared.cause.Cause.{Cause}
-use Rattle.instruction_check.specs.declared.cause.Cause.TheVariants.{Duplicate}
+use Rattle.module_fault.specs.declared.cause.Cause.{Cause}
+use Rattle.module_fault.specs.declared.cause.Cause.TheVariants.{Duplicate}
 use Rattle.instruction_check.specs.declared.roles.GlobalRole.{GlobalRole}
 use Rattle.instruction_check.specs.declared.roles.GlobalRole.TheVariants.{Global, Function, Declared}
 use Rattle.module_check.specs.declared.item_names.NamedItems.{NamedItems}
-use Rattle.module_check.specs.Fault.{note}
+use Rattle.module_fault.specs.Fault.{note}
 use Rattle.module_check.specs.MainFunction.{main_cause}
 use Rattle.module_check.specs.Signature.{signature_of}
 

@@ -1,4 +1,3 @@
-pub mod Fault
 pub mod Laws
 pub mod Signature
 pub mod MainFunction

@@ -5,13 +5,13 @@ use Rattle.ir_types.specs.declared.word.Kind.TheVariants.{Int, Ptr}
 use Rattle.ir_types.specs.declared.word.Width.TheVariants.{W32}
 use Rattle.external_calls.specs.declared.prototype.Parameter.{Parameter}
 use Rattle.external_calls.specs.declared.prototype.Parameter.TheVariants.{Value}
-use Rattle.instruction_check.specs.declared.cause.Cause.{Cause}
-use Rattle.instruction_check.specs.declared.cause.Cause.TheVariants.{BadShape}
+use Rattle.module_fault.specs.declared.cause.Cause.{Cause}
+use Rattle.module_fault.specs.declared.cause.Cause.TheVariants.{BadShape}
 use Rattle.instruction_check.specs.declared.roles.GlobalRole.{GlobalRole}
 use Rattle.instruction_check.specs.declared.roles.GlobalRole.TheVariants as globals
 use Rattle.instruction_check.specs.declared.scope.ModuleNames.{ModuleNames}
 use Rattle.instruction_check.specs.declared.scope.Signature.{Signature}
-use Rattle.instruction_check.specs.Cause.{unless}
+use Rattle.module_fault.specs.Cause.{unless}
 
 abbrev pub is_int : Option Kind → Bool
 is_int (Some (Int W32)) = true

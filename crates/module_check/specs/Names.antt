@@ -4,11 +4,11 @@ use Rattle.ir_items.specs.declared.item.ItemForm.{ItemForm}
 use Rattle.ir_items.specs.declared.item.ItemForm.TheVariants.{Struct, Global, Declare, Define}
 use Rattle.ir_items.specs.Item.{form_of}
 use Rattle.ir_items.specs.Segment.{Segment}
-use Rattle.instruction_check.specs.declared.cause.Cause.TheVariants.{BadShape}
+use Rattle.module_fault.specs.declared.cause.Cause.TheVariants.{BadShape}
 use Rattle.instruction_check.specs.declared.scope.ModuleNames.{ModuleNames}
-use Rattle.module_check.specs.declared.fault.Fault.{Fault}
+use Rattle.module_fault.specs.declared.fault.Fault.{Fault}
 use Rattle.module_check.specs.BodyNames as bodies
-use Rattle.module_check.specs.Fault.{earlier}
+use Rattle.module_fault.specs.Fault.{earlier}
 use Rattle.module_check.specs.ItemNames as items
 use Rattle.module_check.specs.MainFunction.{main_of}
 use Rattle.module_check.specs.Phis.{phi_fault}

@@ -5,14 +5,14 @@ use Rattle.ir_read.specs.Node.{Told}
 use Rattle.ir_items.specs.Item.{body_of}
 use Rattle.ir_items.specs.Segment.{Segment}
 use Rattle.ir_items.specs.Statement.{Statement, is_label, statements_of}
-use Rattle.instruction_check.specs.declared.cause.Cause.TheVariants.{BadShape}
+use Rattle.module_fault.specs.declared.cause.Cause.TheVariants.{BadShape}
 use Rattle.instruction_check.specs.declared.scope.BodyNames.{BodyNames}
-use Rattle.instruction_check.specs.Cause.{unless}
-use Rattle.module_check.specs.declared.fault.Fault.{Fault}
+use Rattle.module_fault.specs.Cause.{unless}
+use Rattle.module_fault.specs.declared.fault.Fault.{Fault}
 use Rattle.module_check.specs.declared.phis.Phis.{Phis}
 use Rattle.module_check.specs.BlockPlace.{at_label, first_place}
 use Rattle.module_check.specs.BodyNames.{begins_with_label}
-use Rattle.module_check.specs.Fault.{note}
+use Rattle.module_fault.specs.Fault.{note}
 use Rattle.module_check.specs.Predecessors.{named_blocks, predecessors_of}
 use Rattle.module_check.specs.Shape.{is_phi}
 

@@ -5,15 +5,15 @@ use Rattle.ir_read.specs.declared.terminal.Terminal.TheVariants as t
 use Rattle.ir_items.specs.Item.{body_of}
 use Rattle.ir_items.specs.Segment.{Segment}
 use Rattle.ir_items.specs.Statement.{Statement, is_label, statements_of}
-use Rattle.instruction_check.specs.declared.cause.Cause.{Cause}
-use Rattle.instruction_check.specs.declared.cause.Cause.TheVariants.{BadShape}
-use Rattle.instruction_check.specs.Cause.{unless}
-use Rattle.module_check.specs.declared.fault.Fault.{Fault}
+use Rattle.module_fault.specs.declared.cause.Cause.{Cause}
+use Rattle.module_fault.specs.declared.cause.Cause.TheVariants.{BadShape}
+use Rattle.module_fault.specs.Cause.{unless}
+use Rattle.module_fault.specs.declared.fault.Fault.{Fault}
 use Rattle.module_check.specs.declared.shape.Phase.{Phase}
 use Rattle.module_check.specs.declared.shape.Phase.TheVariants.{Open, Ended, Broken}
 use Rattle.module_check.specs.declared.shape.Shape.{Shape}
 use Rattle.module_check.specs.BodyNames.{begins_with_label}
-use Rattle.module_check.specs.Fault.{note}
+use Rattle.module_fault.specs.Fault.{note}
 
 -- ---- instructions
 

@@ -4,14 +4,14 @@ ghost use Rattle.std.specs.Prelude.{◌≡◌, IfOk, OnOk, option_map};
 ghost use Rattle.module_check.specs.BodyNames as spec;
 
 use crate::callee::is_output;
-use crate::fault::First;
 use crate::item_names::numbered;
 use crate::signature::result_kind;
-use instruction_check::{BodyNames, Cause, LocalRole, ModuleNames, kind_of, result_of};
+use instruction_check::{BodyNames, LocalRole, ModuleNames, kind_of, result_of};
 use ir_items::{Item, Parameters, Statement, Statements};
 use ir_names::{Given, LocalName, LocalTable};
 use ir_read::Node;
 use ir_types::{Kind, List};
+use module_fault::{Cause, First};
 use rc_base::NoMemory;
 use std::alloc::Global;
 

@@ -5,15 +5,15 @@ ghost use Rattle.ir_items.specs.declared.segment.Cut.TheVariants as cuts;
 ghost use Rattle.ir_items.specs.Segment.{segments_of};
 ghost use Rattle.module_check.specs.ItemNames as spec;
 
-use crate::fault::First;
 use crate::main_function::main_cause;
 use crate::signature::signature_of;
 use external_calls::ExternalCall;
-use instruction_check::{Cause, GlobalRole, ModuleNames};
+use instruction_check::{GlobalRole, ModuleNames};
 use ir_items::{Item, ItemForm, Items};
 use ir_names::NameTable;
 use ir_read::Node;
 use ir_types::List;
+use module_fault::{Cause, First};
 use rc_base::NoMemory;
 use std::alloc::Global;
 

@@ -1,9 +1,7 @@
-//! Laws of faults, of names and of blocks. The functions here do nothing; their contracts are theorems.
+//! Laws of names and of blocks. The functions here do nothing; their contracts are theorems.
 
-ghost use Rattle.std.specs.Prelude.{◌≡◌, ◌++◌, [], List, None, Some};
-ghost use Rattle.module_check.specs.declared.fault.Fault.{Fault};
-ghost use Rattle.module_check.specs.Fault.{earlier, first_of};
-ghost use Rattle.module_check.specs.Laws.{IsFirst, IsNotBehind, is_ended};
+ghost use Rattle.std.specs.Prelude.{◌≡◌, List};
+ghost use Rattle.module_check.specs.Laws.{is_ended};
 ghost use Rattle.module_check.specs.Shape.{is_whole, phase_from};
 ghost use Rattle.module_check.specs.BodyNames.{names_of as body_names};
 ghost use Rattle.module_check.specs.ItemNames.{names_of as module_names};
@@ -12,19 +10,6 @@ ghost use Rattle.ir_items.specs.Segment.{Segment};
 ghost use Rattle.instruction_check.specs.declared.scope.ModuleNames.{ModuleNames};
 ghost use Rattle.module_check.specs.declared.shape.Phase.TheVariants as phases;
 ghost use Rattle.ir_items.specs.Statement.{Statement};
-
-/// The fault that is answered is one of those found, and none of them comes before it. There is one wherever there is a
-/// fault, and no other could be answered, since of two different faults one is behind the other.
-pub fn first_is_answered()
-    ensures first { (faults : List Fault) (fault : Fault) → first_of faults ≡ Some fault → IsFirst fault faults }
-    ensures none { (faults : List Fault) → first_of faults ≡ None → faults ≡ [] }
-    ensures alone { (one other : Fault) → IsNotBehind one other → IsNotBehind other one → one ≡ other }
-{}
-
-/// So faults may be found in any order, and in parts.
-pub fn parts_are_joined()
-    ensures { (front back : List Fault) → first_of (front ++ back) ≡ earlier (first_of front) (first_of back) }
-{}
 
 /// Each name of a module stands for a global that is counted, for a function whose signature is there, or for one that is
 /// declared alone; and each name of a body for a register whose kind is there, for a block that is counted, or for nothing.

@@ -4,8 +4,9 @@ ghost use Rattle.std.specs.Prelude.{◌≡◌};
 ghost use Rattle.module_check.specs.MainFunction as spec;
 
 use external_calls::Parameter;
-use instruction_check::{Cause, GlobalRole, ModuleNames, Signature, unless};
+use instruction_check::{GlobalRole, ModuleNames, Signature};
 use ir_types::{Kind, Width};
+use module_fault::{Cause, unless};
 
 /// What is wrong with a defined function of the name: that it is `main`, and neither `i32 ()` nor `i32 (i32, ptr)`.
 pub fn main_cause(name: &[u8], signature: &Signature) -> Option<Cause>

@@ -6,14 +6,14 @@ ghost use Rattle.ir_items.specs.Segment.{segments_of};
 ghost use Rattle.module_check.specs.Names as spec;
 
 use crate::body_names::name_body;
-use crate::fault::{Fault, First};
 use crate::item_names::name_items;
 use crate::main_function::main_of;
 use crate::phis::phi_fault;
 use crate::shape::shape_fault;
-use instruction_check::{Cause, ModuleNames};
+use instruction_check::ModuleNames;
 use ir_items::{Item, ItemForm, Items};
 use ir_read::Node;
+use module_fault::{Cause, Fault, First};
 use rc_base::NoMemory;
 use std::alloc::Global;
 
@@ -71,7 +71,7 @@ fn body_fault<'s>(
 }
 
 /// The fault, or else that no `main` is defined.
-fn or_no_main(fault: Option<Fault>, main: Option<u32>) -> Option<Fault>
+pub fn or_no_main(fault: Option<Fault>, main: Option<u32>) -> Option<Fault>
     ensures { result ≡ spec.or_no_main fault main }
 {
     match (fault, main) {

@@ -7,12 +7,12 @@ ghost use Rattle.module_check.specs.Phis as spec;
 
 use crate::block_place::BlockPlace;
 use crate::body_names::begins_with_label;
-use crate::fault::{Fault, First};
 use crate::predecessors::{named_blocks, predecessors_of};
 use crate::shape::is_phi;
-use instruction_check::{BodyNames, Cause, unless};
+use instruction_check::BodyNames;
 use ir_items::{Item, Statement, Statements};
 use ir_types::List;
+use module_fault::{Cause, Fault, First, unless};
 use rc_base::NoMemory;
 use std::alloc::Global;
 use std::collections::BTreeSet;

@@ -4,10 +4,9 @@ ghost use Rattle.std.specs.Prelude.{◌≡◌};
 ghost use Rattle.module_check.specs.Shape as spec;
 
 use crate::body_names::begins_with_label;
-use crate::fault::{Fault, First};
-use instruction_check::{Cause, unless};
 use ir_items::{Item, Statement, Statements};
 use ir_read::Terminal;
+use module_fault::{Cause, Fault, First, unless};
 
 /// How far a block has come.
 #[derive(Clone, Copy)]

@@ -2,13 +2,14 @@
 
 use crate::texts::with_main;
 use external_calls::ExternalCall;
-use instruction_check::Cause::{BadShape, Duplicate};
-use instruction_check::{Cause, GlobalRole, LocalRole};
+use instruction_check::{GlobalRole, LocalRole};
 use ir_items::{Item, Items};
 use ir_lex::MOST_BYTES;
 use ir_read::{Node, read_module};
 use ir_types::{Kind, Width};
-use module_check::{Fault, check_names, main_of, name_body, name_items};
+use module_check::{check_names, main_of, name_body, name_items};
+use module_fault::Cause::{BadShape, Duplicate};
+use module_fault::{Cause, Fault};
 use std::test::Fail;
 
 /// Whole texts, and the line and cause of their first fault.
