@@ -1,0 +1,2 @@
+mod Runnable
+mod Words

@@ -1,0 +1,5 @@
+pub mod Instruction
+pub mod Body
+pub mod Function
+pub mod Functions
+pub mod Checked
