@@ -9,7 +9,10 @@
 //! - `items`: modules with their items, statements and phrases
 //! - `names`: the names of items and of a body, definition by definition
 //! - `module_names`: modules with the first fault of their names and shapes
+//! - `addresses`: what `getelementptr`, `alloca` and constant expressions make of addresses
+//! - `modules`, `initial_values`: modules with what their check answers first
 //! - `types`, `layouts`: types with their forms and parts, and what they take in memory
+//! - `structs`: structs with their first fault, what they take, and where their fields lie
 //! - `programs`: whole programs, with the number of their nodes
 //! - `texts`: how texts are put together
 #![tactic(auto)]
@@ -17,7 +20,11 @@
 #[cfg(test)]
 mod accepted;
 #[cfg(test)]
+mod addresses;
+#[cfg(test)]
 mod faults;
+#[cfg(test)]
+mod initial_values;
 #[cfg(test)]
 mod items;
 #[cfg(test)]
@@ -29,9 +36,13 @@ mod marks;
 #[cfg(test)]
 mod module_names;
 #[cfg(test)]
+mod modules;
+#[cfg(test)]
 mod names;
 #[cfg(test)]
 mod programs;
+#[cfg(test)]
+mod structs;
 #[cfg(test)]
 mod texts;
 #[cfg(test)]
