@@ -5,3 +5,4 @@ pub mod Image
 pub mod InitialList
 pub mod Filling
 pub mod Globals
+pub mod Laws

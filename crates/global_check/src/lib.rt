@@ -7,12 +7,14 @@
 //! - `initial_list`: an open list of initial values, and what its next value is for
 //! - `filling`: the way through an initializer
 //! - `globals`: the globals of a module, with what is wrong first
+//! - `laws`: what the definitions say
 #![tactic(auto)]
 
 mod filling;
 mod globals;
 mod image;
 mod initial_list;
+pub mod laws;
 mod placed;
 mod resolved;
 mod strings;
