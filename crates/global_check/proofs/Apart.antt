@@ -1,6 +1,5 @@
 -- Globals whose sizes pass nothing lie apart.
 use Rattle.std.proofs.Common.{◌≡◌, ℕ, ◌+◌, ◌*◌, ◌%◌, ◌^◌, ◌<◌, ◌≤◌, List, [], ◌∷◌, ◌++◌, length, length-append, sum, None, refl, ◌∙◌, subst, arith, leb-true}
-use Rattle.std.specs.Prelude.{nat_le}
 use Rattle.std.proofs.lemmas.List.Sums.{sum_by-append}
 use Rattle.ir_items.specs.declared.item.ItemForm.{ItemForm}
 use Rattle.ir_items.specs.declared.item.ItemForm.TheVariants as forms

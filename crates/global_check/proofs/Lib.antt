@@ -1,3 +1,4 @@
 mod Apart
 mod Faults
+mod Places
 mod Sizes

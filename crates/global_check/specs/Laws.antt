@@ -1,6 +1,7 @@
 -- What the laws say of globals.
-use Rattle.std.specs.Prelude.{◌≡◌, ℕ, ◌+◌, ◌*◌, ◌%◌, ◌≤◌, List, [], ◌∷◌, length, sum}
+use Rattle.std.specs.Prelude.{◌≡◌, ℕ, ◌+◌, ◌*◌, ◌%◌, ◌≤◌, List, [], ◌∷◌, None, length, map, sum}
 use Rattle.ir_types.specs.declared.«module».GlobalVar.{GlobalVar}
+use Rattle.global_check.specs.declared.globals.CheckedGlobals.{CheckedGlobals}
 use Rattle.global_check.specs.declared.placed.PlacedGlobals.{PlacedGlobals}
 use Rattle.global_check.specs.Placed.{first_address, most_bytes}
 
@@ -26,3 +27,9 @@ pub record AreApart (placed : PlacedGlobals) : Type 0 where
 
 abbrev pub HasItsSize : GlobalVar → Type 0
 HasItsSize global = length global.image ≡ global.size
+
+-- the globals that were checked lie where they were placed, and what is wrong with places is wrong with them
+pub record AreThosePlaced (placed : PlacedGlobals) (checked : CheckedGlobals) : Type 0 where
+  pub addresses : map (λ global. global.base) checked.globals ≡ placed.addresses
+  pub sizes : map (λ global. global.size) checked.globals ≡ placed.sizes
+  pub faults : checked.first ≡ None → placed.first ≡ None

@@ -3,7 +3,7 @@
 ghost use Rattle.std.specs.Prelude.{◌≡◌, ◌<◌, ◌^◌, ℕ, All, List, None, length};
 ghost use Rattle.global_check.specs.Filling.{filling_of};
 ghost use Rattle.global_check.specs.Globals.{globals_of};
-ghost use Rattle.global_check.specs.Laws.{AreApart, HasItsSize};
+ghost use Rattle.global_check.specs.Laws.{AreApart, AreThosePlaced, HasItsSize};
 ghost use Rattle.global_check.specs.Placed.{placed};
 ghost use Rattle.instruction_check.specs.Scope.{Scope};
 ghost use Rattle.ir_items.specs.Segment.{Segment};
@@ -15,6 +15,13 @@ ghost use Rattle.struct_table.specs.StructTable.{Structs};
 pub fn globals_lie_apart()
     ensures { (structs : Structs) (items : List Segment) → length items < 2 ^ 32 →
         (placed structs items).first ≡ None → AreApart (placed structs items) }
+{}
+
+/// The globals of a module have the addresses and sizes that they were placed with, and where nothing is wrong with them
+/// they don't take too much.
+pub fn globals_lie_where_placed()
+    ensures { (scope : Scope) (items : List Segment) →
+        AreThosePlaced (placed scope.structs items) (globals_of scope (placed scope.structs items) items) }
 {}
 
 /// Whatever a global begins with, its image keeps the size that it was begun with.
