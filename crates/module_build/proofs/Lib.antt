@@ -1,2 +1,4 @@
+mod Main
 mod Runnable
+mod Texts
 mod Words
