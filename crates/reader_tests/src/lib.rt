@@ -10,10 +10,11 @@
 //! - `names`: the names of items and of a body, definition by definition
 //! - `module_names`: modules with the first fault of their names and shapes
 //! - `addresses`: what `getelementptr`, `alloca` and constant expressions make of addresses
-//! - `modules`, `initial_values`: modules with what their check answers first
 //! - `types`, `layouts`: types with their forms and parts, and what they take in memory
 //! - `structs`: structs with their first fault, what they take, and where their fields lie
 //! - `programs`: whole programs, with the number of their nodes
+//! - `modules`, `bodies`, `operands`, `calls`, `formats`, `initial_values`: modules with the first fault of their check
+//! - `built_modules`: a module in full, from its globals' bytes to its instructions
 //! - `texts`: how texts are put together
 #![tactic(auto)]
 
@@ -22,7 +23,15 @@ mod accepted;
 #[cfg(test)]
 mod addresses;
 #[cfg(test)]
+mod bodies;
+#[cfg(test)]
+mod built_modules;
+#[cfg(test)]
+mod calls;
+#[cfg(test)]
 mod faults;
+#[cfg(test)]
+mod formats;
 #[cfg(test)]
 mod initial_values;
 #[cfg(test)]
@@ -39,6 +48,8 @@ mod module_names;
 mod modules;
 #[cfg(test)]
 mod names;
+#[cfg(test)]
+mod operands;
 #[cfg(test)]
 mod programs;
 #[cfg(test)]
