@@ -23,6 +23,7 @@ abbrev pub call_result : List Told → Option Kind
 call_result [] = None
 call_result (node ∷ rest) = given_by node.terminal node
 
+-- what begins with no word of an instruction gives nothing; that it is none is a fault of the instruction itself
 abbrev pub result_by : Terminal → List (List Told) → Option Kind
 result_by t.Binary phrases = Some (kind_in (first phrases))
 result_by t.Phi phrases = Some (kind_in (first phrases))
@@ -34,6 +35,12 @@ result_by t.Select phrases = Some (third_kind phrases)
 result_by t.Alloca phrases = Some Ptr
 result_by t.GetElementPtr phrases = Some Ptr
 result_by t.Call phrases = call_result (first phrases)
+result_by t.Store phrases = None
+result_by t.Br phrases = None
+result_by t.Switch phrases = None
+result_by t.Ret phrases = None
+result_by t.Unreachable phrases = None
+result_by t.Label phrases = None
 result_by _ phrases = None
 
 -- the kind of what an instruction gives, as it is written; none where it gives nothing, and of a label

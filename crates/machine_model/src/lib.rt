@@ -7,6 +7,7 @@
 //! - `trap`, `run`: how an instruction fails, how a turn and a run end, and what a run leaves
 //! - `case`, `race`: what is asked of a recorded run
 //! - `copy`: equal inputs and turns
+//! - `rows`: which instructions it runs
 //! - `laws`: what holds of every run
 //!
 //! The definitions of step, turn and run are in `specs/`.
@@ -19,6 +20,7 @@ pub mod laws;
 mod mode;
 mod pending;
 mod race;
+mod rows;
 mod run;
 mod state;
 mod state_copy;
@@ -30,6 +32,7 @@ pub use copy::{copy_input, copy_turns};
 pub use mode::Mode;
 pub use pending::Pending;
 pub use race::{Path, Race};
+pub use rows::has_row;
 pub use run::{Decisions, Outcome, Reason, Run, TurnEnd, Turns};
 pub use state::{Condition, Frame, Lock, Object, ObjectKind, Operation, OutItem, State, Thread};
 pub use trap::{MemError, Trap};

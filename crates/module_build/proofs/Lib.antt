@@ -1,4 +1,14 @@
+mod Apart
+mod CallFits
+mod Choice
+mod Ends
+mod Faults
+mod Fits
+mod InLines
 mod Main
+mod OperandFits
+mod Ranges
 mod Runnable
 mod Texts
+mod Whole
 mod Words

@@ -37,7 +37,7 @@ in_role all functions number roles place (Some (globals.Global found)) stand the
 in_role all functions number roles place (Some (globals.Declared call)) stand there is = cc
 in_role all functions number roles place None stand there is = cc
 
-in_roles : (all functions number : ℕ) (roles : List GlobalRole) (place : Option ℕ) → AllByRecursion (IsItem all functions) roles →
+pub in_roles : (all functions number : ℕ) (roles : List GlobalRole) (place : Option ℕ) → AllByRecursion (IsItem all functions) roles →
     function_in (option_and_then (slice_get roles) place) ≡ Some number → number < functions
 in_roles all functions number roles None stand is = cc
 in_roles all functions number roles (Some place) stand is =
@@ -56,7 +56,7 @@ as_many_with forms.Struct names structs done named item is = is
 as_many_with forms.Global names structs done named item is = is
 as_many_with forms.Declare names structs done named item is = is
 
-as_many : (names : ModuleNames) (structs : Structs) (done : BuiltFunctions) (named : NamedItems) (all : List Segment) →
+pub as_many : (names : ModuleNames) (structs : Structs) (done : BuiltFunctions) (named : NamedItems) (all : List Segment) →
     length done.functions ≡ length named.names.signatures →
     length (functions_from names structs done all).functions ≡ length (items.names_from named all).names.signatures
 as_many names structs done named [] is = is
@@ -67,7 +67,7 @@ as_many names structs done named (item ∷ all) is =
 -- ---- the module
 
 -- where no `main` is defined there is a fault
-lacks_main : (first : Option Fault) → or_no_main first None ≡ None → ⊥
+pub lacks_main : (first : Option Fault) → or_no_main first None ≡ None → ⊥
 lacks_main (Some fault) is = cc
 lacks_main None is = cc
 

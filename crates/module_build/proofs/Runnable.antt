@@ -31,12 +31,12 @@ use Rattle.module_build.specs.Functions.{functions_from, with_form}
 use Rattle.module_build.specs.Instruction.{instruction}
 
 -- the segments of a list are its nodes
-abbrev AreWhole : Type 0
+abbrev pub AreWhole : Type 0
 AreWhole = (cut : Cut) (nodes : List Told) → nodes_of (segments_of cut nodes) ≡ nodes
 
 -- ---- how many statements there are
 
-no_more : (segments : List Segment) → length segments ≤ length (nodes_of segments)
+pub no_more : (segments : List Segment) → length segments ≤ length (nodes_of segments)
 no_more [] = omega arith
 no_more (segment ∷ segments) = omega (arith, no_more segments, length-append segment.rest (nodes_of segments))
 

@@ -11,7 +11,7 @@ use Rattle.ir_read.specs.Node.{Lexeme, Told, is_kept, node, told}
 use Rattle.ir_read.specs.Read.{lexemes_of, raw_module_of}
 use Rattle.ir_read.specs.Text.{ending_of, last_line, lexemes_left, raw_module_in}
 use Rattle.rc_base.specs.Failures.{◌>>=◌}
-use Rattle.machine_model.specs.Runnable.{IsRunnable}
+use Rattle.ir_types.specs.declared.«module».Module.{Module}
 use Rattle.module_build.specs.Checked.{checked_module, module_in}
 
 -- ---- a token gives a node at most
@@ -57,13 +57,14 @@ few_nodes read few text nodes is =
     let reads = read left nodes is in
     omega (arith, few text, one_more (tokens_of text).tokens (ending_of (last_line text) (tokens_of text).fault), few_bare reads.skipped, few_parsed reads.parsed)
 
-behind : (run : (nodes : List Told) → length nodes < 2 ^ 32 → IfOk (checked_module nodes) IsRunnable)
+behind : (P : Module → Type 0) (holds : (nodes : List Told) → length nodes < 2 ^ 32 → IfOk (checked_module nodes) P)
     (raw : Result (List Told) ModuleError) → ((nodes : List Told) → raw ≡ Ok nodes → length nodes < 2 ^ 32) →
-    IfOk (raw >>= checked_module) IsRunnable
-behind run (Ok nodes) short = run nodes (short nodes refl)
-behind run (Err error) short = tt
+    IfOk (raw >>= checked_module) P
+behind P holds (Ok nodes) short = holds nodes (short nodes refl)
+behind P holds (Err error) short = tt
 
-pub texts_run : (run : (nodes : List Told) → length nodes < 2 ^ 32 → IfOk (checked_module nodes) IsRunnable) →
-    AreRead → AreFew → (text : List ℕ) → length text ≤ 2 ^ 22 → IfOk (module_in text) IsRunnable
-texts_run run read few text short =
-    behind run (raw_module_in text) (λ nodes is. omega (arith, short, few_nodes read few text nodes is))
+-- what holds of the module of few nodes holds of that of a text
+pub texts_hold : (P : Module → Type 0) → ((nodes : List Told) → length nodes < 2 ^ 32 → IfOk (checked_module nodes) P) →
+    AreRead → AreFew → (text : List ℕ) → length text ≤ 2 ^ 22 → IfOk (module_in text) P
+texts_hold P holds read few text short =
+    behind P holds (raw_module_in text) (λ nodes is. omega (arith, short, few_nodes read few text nodes is))

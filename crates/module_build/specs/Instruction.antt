@@ -1,5 +1,5 @@
 -- An instruction of a body, by its word.
-use Rattle.std.specs.Prelude.{ℕ, List, is_some, None}
+use Rattle.std.specs.Prelude.{ℕ, List, is_some, Some, None}
 use Rattle.ir_read.specs.declared.terminal.Terminal.{Terminal}
 use Rattle.ir_read.specs.declared.terminal.Terminal.TheVariants as t
 use Rattle.ir_read.specs.Node.{Told}
@@ -7,6 +7,7 @@ use Rattle.ir_items.specs.Phrase.{phrases_of}
 use Rattle.ir_items.specs.Statement.{Statement}
 use Rattle.ir_types.specs.declared.instruction.Inst.{Inst}
 use Rattle.ir_types.specs.declared.instruction.Inst.TheVariants as insts
+use Rattle.module_fault.specs.declared.cause.Cause.TheVariants.{BadShape}
 use Rattle.module_fault.specs.declared.cause.Found.{Found}
 use Rattle.instruction_check.specs.Address.{alloca, element}
 use Rattle.instruction_check.specs.Control.{branch, phi, ret, switch}
@@ -16,7 +17,7 @@ use Rattle.instruction_check.specs.Scope.{Scope}
 use Rattle.instruction_check.specs.Values.{binary, compare, convert, select}
 use Rattle.call_check.specs.Call.{call}
 
--- the last one is `unreachable`, which has no operands
+-- what begins with no word of an instruction is none
 abbrev pub instruction_by : Terminal → Scope → ℕ → Statement → List (List Told) → Found Inst
 instruction_by t.Binary scope to statement phrases = binary scope to (binary_of statement.operation.text) phrases
 instruction_by t.Icmp scope to statement phrases = compare scope to phrases
@@ -32,7 +33,8 @@ instruction_by t.Br scope to statement phrases = branch scope phrases
 instruction_by t.Switch scope to statement phrases = switch scope phrases
 instruction_by t.Ret scope to statement phrases = ret scope phrases
 instruction_by t.Call scope to statement phrases = call scope to (is_some statement.result) statement.operands
-instruction_by _ scope to statement phrases = record { value = insts.Unreachable; cause = None }
+instruction_by t.Unreachable scope to statement phrases = record { value = insts.Unreachable; cause = None }
+instruction_by _ scope to statement phrases = record { value = insts.Unreachable; cause = Some BadShape }
 
 -- what sets a register sets the one of the number
 abbrev pub instruction : Scope → ℕ → Statement → Found Inst

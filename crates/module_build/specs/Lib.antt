@@ -3,3 +3,7 @@ pub mod Body
 pub mod Function
 pub mod Functions
 pub mod Checked
+pub mod Whole
+pub mod Ranges
+pub mod Lines
+pub mod InLine

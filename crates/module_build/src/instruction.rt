@@ -8,7 +8,7 @@ use instruction_check::{Scope, binary_of, cast_of};
 use ir_items::{Phrases, Statement};
 use ir_read::Terminal;
 use ir_types::Inst;
-use module_fault::Found;
+use module_fault::{Cause, Found};
 use rc_base::NoMemory;
 use std::alloc::Global;
 
@@ -53,9 +53,13 @@ pub fn instruction<'m, 's>(
             let found = call(scope, alloc, to, is_named, statement.operands)?;
             Ok(found)
         }
-        _ => Ok(Found {
+        Terminal::Unreachable => Ok(Found {
             value: Inst::Unreachable,
             cause: None,
+        }),
+        _ => Ok(Found {
+            value: Inst::Unreachable,
+            cause: Some(Cause::BadShape),
         }),
     }
 }
