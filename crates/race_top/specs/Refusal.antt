@@ -1,7 +1,7 @@
 -- The refusals, and the line that a refused request is answered with.
 use Rattle.std.specs.Prelude.{ℕ, List, [], ◌++◌, codes, decimal, Result, Ok, Err}
 use Rattle.case_text.specs.Error as case_error
-use Rattle.ir_check.specs.Error as module_error
+use Rattle.module_text.specs.Fault as module_fault
 use Rattle.race_top.specs.declared.refusal.Refusal.{Refusal}
 use Rattle.race_top.specs.declared.refusal.Refusal.TheVariants.{TooLong, Module, Case, Replay, Race}
 use Rattle.race_top.specs.CheckRace as race_error
@@ -15,7 +15,7 @@ line_of reader name place = codes "refused " ++ reader ++ name ++ codes " " ++ d
 -- the place is the file's number, the line, or the number of the listed turn or of the race
 abbrev pub refusal_line : Refusal → List ℕ
 refusal_line (TooLong file) = line_of (codes "TooLong") [] (number_of file)
-refusal_line (Module error) = line_of (codes "Module") (module_error.name_of error) (module_error.place_of error)
+refusal_line (Module error) = line_of (codes "Module") (module_fault.name_of error) (module_fault.line_of error)
 refusal_line (Case error) = line_of (codes "Case") (case_error.name_of error) (case_error.place_of error)
 refusal_line (Replay error) = line_of (codes "Replay") (replay_error.name_of error) (replay_error.place_of error)
 refusal_line (Race race error) = line_of (codes "Race") (race_error.name_of error) race

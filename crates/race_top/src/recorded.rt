@@ -11,10 +11,9 @@ use crate::files::Files;
 use crate::stop::Stop;
 use crate::trace_replay::replay;
 use case_text::read_case;
-use ir_check::check_module;
 use ir_types::Module;
-use line_read::read_lines;
 use machine_model::{Case, Run};
+use module_text::load_module;
 use std::alloc::Global;
 
 /// A module and a case for it, with the run that the case records.
@@ -36,8 +35,7 @@ impl Recorded {
         ensures races { IfOk result (λ recorded. length recorded.case.races ≤ 1) }
         ensures cause { StopsByBytes result }
     {
-        let lines = read_lines(alloc, &files.module)?;
-        let code = check_module(alloc, &lines)?;
+        let code = load_module(alloc, &files.module)?;
         let case = read_case(alloc, &files.case, &code)?;
         let run = replay(alloc, &code, &case)?;
         Ok(Recorded { code, case, run })

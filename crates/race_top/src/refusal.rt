@@ -6,7 +6,7 @@ ghost use Rattle.race_top.specs.Refusal.{refusal_line};
 use crate::file::File;
 use crate::trace_replay::{RaceError, ReplayError};
 use case_text::CaseError;
-use ir_check::ModuleError;
+use module_text::{ModuleError, fault_line, fault_name};
 use std::alloc::{AllocError, Global};
 
 /// A refusal: what is wrong, with the place.
@@ -33,7 +33,11 @@ impl Refusal {
         match self {
             Refusal::TooLong(file) => format!(in alloc; "refused TooLong {}\n", file.number()),
             Refusal::Module(error) => {
-                format!(in alloc; "refused Module{} {}\n", error.name(), error.place())
+                format!(in alloc;
+                    "refused Module{} {}\n",
+                    fault_name(error),
+                    fault_line(error)
+                )
             }
             Refusal::Case(error) => {
                 format!(in alloc; "refused Case{} {}\n", error.name(), error.place())

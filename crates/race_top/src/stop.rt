@@ -5,7 +5,7 @@ ghost use Rattle.std.specs.Prelude.{◌≡◌};
 use crate::refusal::Refusal;
 use crate::trace_replay::{RaceError, ReplayError};
 use case_text::CaseError;
-use ir_check::ModuleError;
+use module_text::ModuleError;
 use rc_base::{Failure, NoMemory};
 
 /// Why there is no text to write.

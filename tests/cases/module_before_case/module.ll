@@ -1,4 +1,4 @@
-!0 = !{}
+@pi = global float 3.0
 @g = global i32 64
 @t = global i64 0
 declare i32 @pthread_create(ptr, ptr, ptr, ptr)

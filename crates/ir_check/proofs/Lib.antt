@@ -1,9 +1,0 @@
-mod Builds
-mod FunctionNames
-mod GlobalsApart
-mod Lists
-mod Numbers
-mod Rows
-mod Runnable
-mod Tables
-mod WholeBlocks

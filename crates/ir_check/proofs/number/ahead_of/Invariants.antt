@@ -1,9 +1,0 @@
-use Rattle.std.proofs.Common.{◌≡◌}
-use Rattle.ir_check.specs.Number.{ahead_of, front_of}
-use Rattle.ir_check.proofs.number.ahead_of.Given as goal
-
-abbrev pub invariant-loop-behind : goal.invariant-loop-behind
-invariant-loop-behind l = l.ahead ≡ ahead_of (front_of l.digits l.behind) (front_of l.others l.behind)
-
-abbrev pub decreases-loop-behind : goal.decreases-loop-behind
-decreases-loop-behind l = l.behind

@@ -1,5 +1,0 @@
-mod Lines
-mod Decimals
-mod Readings
-mod Sigils
-mod Spellings

@@ -1,0 +1,4 @@
+@g = global float 0.0
+define i32 @main() {
+  ret i32 0
+}
