@@ -7,8 +7,8 @@ use Rattle.std.proofs.lemmas.List.{map-append}
 use Rattle.std.proofs.lemmas.Option.{same_Some}
 use Rattle.ir_types.specs.declared.instruction.Site.{Site}
 use Rattle.ir_types.specs.declared.«module».Module.{Module}
-use Rattle.machine_model.specs.Access.{is_site}
-use Rattle.machine_model.specs.declared.case.Case.{Case}
+use Rattle.run_types.specs.Site.{is_site}
+use Rattle.run_types.specs.declared.case.Case.{Case}
 use Rattle.rc_base.specs.Failures.{or_error}
 use Rattle.case_text.specs.declared.error.CaseError.TheVariants as errors
 use Rattle.case_text.specs.declared.keyword.Field.{Field as OneNumber}

@@ -4,8 +4,8 @@ use Rattle.std.specs.List.{AllByRecursion, IsDistinct, flat_map, list_any}
 use Rattle.std.proofs.lemmas.Map.Keys.{IsDistinct-head, IsDistinct-tail}
 use Rattle.ir_types.specs.declared.instruction.Site.{Site}
 use Rattle.ir_types.specs.declared.«module».Module.{Module}
-use Rattle.machine_model.specs.Access.{is_site}
-use Rattle.machine_model.specs.declared.case.Case.{Case}
+use Rattle.run_types.specs.Site.{is_site}
+use Rattle.run_types.specs.declared.case.Case.{Case}
 use Rattle.rc_base.specs.Failures.{◌>>=◌}
 use Rattle.case_text.specs.declared.keyword.Field.{Field as OneNumber}
 use Rattle.case_text.specs.declared.keyword.Field.TheVariants.{Seed, Steps, Visits, Paths, Schedules}

@@ -7,8 +7,8 @@ use Rattle.std.proofs.lemmas.List.{length-replicate}
 use Rattle.std.proofs.lemmas.Map.Keys.{IsDistinct-push}
 use Rattle.ir_types.specs.declared.instruction.Site.{Site}
 use Rattle.ir_types.specs.declared.«module».Module.{Module}
-use Rattle.machine_model.specs.Access.{is_site}
-use Rattle.machine_model.specs.declared.case.Case.{Case}
+use Rattle.run_types.specs.Site.{is_site}
+use Rattle.run_types.specs.declared.case.Case.{Case}
 use Rattle.rc_base.specs.Failures.{◌>>=◌, or_error}
 use Rattle.case_text.specs.declared.error.CaseError.{CaseError}
 use Rattle.case_text.specs.declared.error.CaseError.TheVariants as errors

@@ -2,8 +2,8 @@
 use Rattle.std.specs.Prelude.{◌≡◌, ℕ, ◌*◌, ◌^◌, ◌<◌, ◌≤◌, List, [], ◌∷◌, ◌++◌, length, map, Some}
 use Rattle.std.specs.List.{AllByRecursion, IsDistinct, flat_map}
 use Rattle.ir_types.specs.declared.«module».Module.{Module}
-use Rattle.machine_model.specs.declared.case.Case.{Case}
-use Rattle.machine_model.specs.Access.{is_site}
+use Rattle.run_types.specs.declared.case.Case.{Case}
+use Rattle.run_types.specs.Site.{is_site}
 use Rattle.case_text.specs.declared.keyword.Field.TheVariants.{Seed, Steps, Visits, Paths, Schedules}
 use Rattle.case_text.specs.declared.keyword.Keyword.{Keyword}
 use Rattle.case_text.specs.declared.keyword.Keyword.TheVariants as keywords

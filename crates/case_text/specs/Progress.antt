@@ -3,7 +3,7 @@ use Rattle.std.specs.Prelude.{ℕ, ◌+◌, ◌*◌, ◌^◌, Bool, not, ◌&&�
 use Rattle.std.specs.Option.{is_some}
 use Rattle.ir_types.specs.declared.«module».Module.{Module}
 use Rattle.ir_types.specs.declared.input.Input.{Input}
-use Rattle.machine_model.specs.declared.case.Case.{Case}
+use Rattle.run_types.specs.declared.case.Case.{Case}
 use Rattle.rc_base.specs.Failures.{◌>>=◌, or_error}
 use Rattle.case_text.specs.declared.error.CaseError.{CaseError}
 use Rattle.case_text.specs.declared.error.CaseError.TheVariants.{Syntax, Range, Slot}

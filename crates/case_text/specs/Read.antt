@@ -1,7 +1,7 @@
 -- The text of a case, line by line.
 use Rattle.std.specs.Prelude.{ℕ, ◌+◌, List, [], ◌∷◌, Result, Ok, Err, if◌then◌else◌}
 use Rattle.ir_types.specs.declared.«module».Module.{Module}
-use Rattle.machine_model.specs.declared.case.Case.{Case}
+use Rattle.run_types.specs.declared.case.Case.{Case}
 use Rattle.rc_base.specs.Failures.{◌>>=◌}
 use Rattle.case_text.specs.declared.error.CaseError.{CaseError}
 use Rattle.case_text.specs.declared.error.CaseError.TheVariants.{Syntax}

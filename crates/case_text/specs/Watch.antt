@@ -7,7 +7,7 @@ use Rattle.ir_types.specs.declared.instruction.Inst.TheVariants.{Binary, Compare
 use Rattle.ir_types.specs.declared.instruction.Site.{Site}
 use Rattle.ir_types.specs.declared.«module».Function.{Function}
 use Rattle.ir_types.specs.declared.«module».Module.{Module}
-use Rattle.machine_model.specs.Access.{is_site}
+use Rattle.run_types.specs.Site.{is_site}
 use Rattle.rc_base.specs.Failures.{◌>>=◌, or_error}
 use Rattle.case_text.specs.declared.error.CaseError.{CaseError}
 use Rattle.case_text.specs.declared.error.CaseError.TheVariants as errors

@@ -2,7 +2,7 @@
 
 ghost use Rattle.std.specs.Prelude.{◌≡◌, ◌↔◌, ℕ, List, ◌++◌, length, Ok, Err, Some};
 ghost use Rattle.std.specs.List.{AllByRecursion};
-ghost use Rattle.machine_model.specs.declared.case.Case.{Case as Recorded};
+ghost use Rattle.run_types.specs.declared.case.Case.{Case as Recorded};
 ghost use Rattle.case_text.specs.Error.{place_of};
 ghost use Rattle.case_text.specs.Laws.{Spells};
 ghost use Rattle.case_text.specs.Line.{AreUncut, IsForm, line_of, line_text};

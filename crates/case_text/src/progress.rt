@@ -12,8 +12,8 @@ use crate::keyword::{Field, Keyword};
 use crate::line::Line;
 use crate::watch::add_site;
 use ir_types::{Input, List, Module};
-use machine_model::{Case, Turns};
 use rc_base::Failure;
+use run_types::{Case, Turns};
 use std::alloc::{AllocError, Global};
 use text_lines::{RunWord, RunWords};
 

@@ -7,8 +7,8 @@ ghost use Rattle.case_text.specs.Read.{case_of};
 use crate::error::CaseError;
 use crate::progress::Progress;
 use ir_types::Module;
-use machine_model::Case;
 use rc_base::Failure;
+use run_types::Case;
 use std::alloc::Global;
 use text_lines::Parts;
 

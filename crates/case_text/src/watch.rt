@@ -2,7 +2,7 @@
 
 ghost use Rattle.std.specs.Prelude.{◌≡◌, ◌<◌, ◌^◌, IfSome, length, option_copied, slice_get};
 ghost use Rattle.std.specs.List.{flat_map, list_any};
-ghost use Rattle.machine_model.specs.Access.{is_site};
+ghost use Rattle.run_types.specs.Site.{is_site};
 ghost use Rattle.rc_base.specs.Failures.{Gives, or_error};
 ghost use Rattle.case_text.specs.Watch.{function_named, is_access, site_of, with_watch};
 ghost use Rattle.case_text.specs.Words.{watched};

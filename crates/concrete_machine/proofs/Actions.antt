@@ -8,7 +8,7 @@ use Rattle.ir_types.specs.declared.instruction.Inst.{Inst}
 use Rattle.ir_types.specs.declared.instruction.Inst.TheVariants.{External, Ret}
 use Rattle.ir_types.specs.declared.instruction.Operand.{Operand}
 use Rattle.ir_types.specs.declared.instruction.Site.{Site}
-use Rattle.machine_model.specs.declared.run.TurnEnd.TheVariants.{Spent}
+use Rattle.run_types.specs.declared.run.TurnEnd.TheVariants.{Spent}
 use Rattle.machine_model.specs.declared.state.Frame.{Frame}
 use Rattle.machine_model.specs.declared.state.State.{State}
 use Rattle.machine_model.specs.declared.state.Thread.{Thread}

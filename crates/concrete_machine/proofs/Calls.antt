@@ -9,8 +9,8 @@ use Rattle.ir_types.specs.declared.«module».Module.{Module}
 use Rattle.machine_model.specs.declared.state.Object.{Object}
 use Rattle.machine_model.specs.declared.state.State.{State}
 use Rattle.machine_model.specs.declared.state.Thread.{Thread}
-use Rattle.machine_model.specs.declared.trap.Trap.{Trap}
-use Rattle.machine_model.specs.declared.trap.Trap.TheVariants.{BadJoin}
+use Rattle.run_types.specs.declared.trap.Trap.{Trap}
+use Rattle.run_types.specs.declared.trap.Trap.TheVariants.{BadJoin}
 use Rattle.machine_model.specs.Call.{again, created, joined, joined_or_traps, most_threads, with_result}
 use Rattle.machine_model.specs.Effect.Effect.{Traps}
 use Rattle.machine_model.specs.Memory.{written}

@@ -1,6 +1,6 @@
 -- What a turn costs: no more than is left.
 use Rattle.std.proofs.Common.{◌≡◌, ℕ, ◌≤◌, List, arith}
-use Rattle.machine_model.specs.declared.run.TurnEnd.{TurnEnd}
+use Rattle.run_types.specs.declared.run.TurnEnd.{TurnEnd}
 use Rattle.machine_model.specs.declared.state.State.{State}
 use Rattle.machine_model.specs.Setting.{Setting}
 use Rattle.machine_model.specs.SystemLaws.{price_of}

@@ -4,7 +4,7 @@ use Rattle.std.specs.Prelude.{position}
 use Rattle.std.proofs.lemmas.List.Quantifiers.{position-Some}
 use Rattle.std.proofs.lemmas.Option.{slice_get_read}
 use Rattle.machine_model.specs.declared.state.Object.{Object}
-use Rattle.machine_model.specs.declared.trap.Trap.TheVariants.{ReadOnly}
+use Rattle.run_types.specs.declared.trap.Trap.TheVariants.{ReadOnly}
 use Rattle.machine_model.specs.Memory.{bytes_of, covers, is_constant, object_at, object_of, with_bytes, with_place, write_to, written}
 
 pub covers-found : (objects : List Object) (at len place : ℕ) (object : Object) →

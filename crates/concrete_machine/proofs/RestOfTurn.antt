@@ -1,8 +1,8 @@
 -- The rest of a turn, from what the thread's instructions give.
 use Rattle.std.proofs.Common.{◌≡◌, ℕ, false, cond, List, set, Some, ap, ◌∙◌}
 use Rattle.std.specs.Prelude.{slice_get}
-use Rattle.machine_model.specs.declared.run.TurnEnd.{TurnEnd}
-use Rattle.machine_model.specs.declared.run.TurnEnd.TheVariants as ends
+use Rattle.run_types.specs.declared.run.TurnEnd.{TurnEnd}
+use Rattle.run_types.specs.declared.run.TurnEnd.TheVariants as ends
 use Rattle.machine_model.specs.declared.state.Object.{Object}
 use Rattle.machine_model.specs.declared.state.State.{State}
 use Rattle.machine_model.specs.declared.state.Thread.{Thread}

@@ -1,6 +1,6 @@
 -- What the code of the concrete machine answers after one instruction.
 use Rattle.std.specs.Prelude.{ℕ, List, Option, Some, None}
-use Rattle.machine_model.specs.declared.run.TurnEnd.{TurnEnd}
+use Rattle.run_types.specs.declared.run.TurnEnd.{TurnEnd}
 use Rattle.machine_model.specs.Turn.{Move, stopped}
 use Rattle.machine_model.specs.Turn.Move.{Leads}
 

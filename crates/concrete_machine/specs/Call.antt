@@ -6,7 +6,7 @@ use Rattle.machine_model.specs.declared.state.Frame.{Frame}
 use Rattle.machine_model.specs.declared.state.Object.{Object}
 use Rattle.machine_model.specs.declared.state.State.{State}
 use Rattle.machine_model.specs.declared.state.Thread.{Thread}
-use Rattle.machine_model.specs.declared.trap.Trap.{Trap}
+use Rattle.run_types.specs.declared.trap.Trap.{Trap}
 use Rattle.machine_model.specs.Call.{Returned}
 use Rattle.machine_model.specs.Effect.{Effect}
 use Rattle.machine_model.specs.Effect.Effect.{Done, Traps, NoRow}

@@ -1,7 +1,7 @@
 -- The run so far that the code keeps, in terms of the definitions.
 use Rattle.std.specs.Prelude.{◌≡◌, ℕ, Option, Some, None, Result, Ok, Err}
 use Rattle.ir_types.specs.declared.«module».Module.{Module}
-use Rattle.machine_model.specs.declared.case.Case.{Case}
+use Rattle.run_types.specs.declared.case.Case.{Case}
 use Rattle.machine_model.specs.declared.state.State.{State}
 use Rattle.machine_model.specs.Policy.{Choice}
 use Rattle.machine_model.specs.Runnable.{IsRunnable}

@@ -1,6 +1,6 @@
 -- What the code of turns answers, and that of parts of one.
 use Rattle.std.specs.Prelude.{ℕ, List}
-use Rattle.machine_model.specs.declared.run.TurnEnd.{TurnEnd}
+use Rattle.run_types.specs.declared.run.TurnEnd.{TurnEnd}
 use Rattle.machine_model.specs.Turn.{Turned}
 
 abbrev pub turn_leaving : {S : Type 0} → S → ℕ → List ℕ → TurnEnd → Turned S

@@ -18,8 +18,9 @@ use crate::operand::{decide_addresses, decide_numbers};
 use crate::setting::Setting;
 use crate::visible::is_visible;
 use ir_types::{List, Site};
-use machine_model::{Frame, Object, Operation, Thread, TurnEnd};
+use machine_model::{Frame, Object, Operation, Thread};
 use rc_base::NoMemory;
+use run_types::TurnEnd;
 use std::alloc::Global;
 
 /// Makes a visible instruction the thread's pending operation.

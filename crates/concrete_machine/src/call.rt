@@ -14,8 +14,9 @@ use crate::operand::number_at;
 use crate::setting::Setting;
 use crate::starts::make_thread;
 use ir_types::{Extern, ItemKind};
-use machine_model::{Object, ObjectKind, OutItem, State, Thread, Trap};
+use machine_model::{Object, ObjectKind, State, Thread};
 use rc_base::NoMemory;
+use run_types::{OutItem, Trap};
 use std::alloc::Global;
 
 /// A process has at most so many threads.

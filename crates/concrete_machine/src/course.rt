@@ -13,8 +13,9 @@ ghost use Rattle.concrete_machine.specs.Course.{ChoosesTurn, GoesOn, IsOf, advan
 
 use crate::machine::Machine;
 use ir_types::{Input, Module};
-use machine_model::{Access, Case, Outcome, Run, TurnEnd};
+use machine_model::Access;
 use rc_base::{NoMemory, Steps};
+use run_types::{Case, Outcome, Run, TurnEnd};
 use std::alloc::Global;
 use std::sync::ledger::Ledger;
 use turn_policy::Policy;

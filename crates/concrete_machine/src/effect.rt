@@ -3,9 +3,9 @@
 ghost use Rattle.std.specs.Prelude.{◌≡◌, ◌%◌, ◌^◌, ℕ, IfSome, IsSome, List, Some};
 ghost use Rattle.ir_types.specs.Kind.{size_of, width_of};
 ghost use Rattle.ir_types.specs.Width.{bits_of};
-ghost use Rattle.machine_model.specs.Decision.{value_of_binary};
+ghost use Rattle.machine_model.specs.Decision.{total_of_binary};
 ghost use Rattle.machine_model.specs.Effect.{done_or_traps};
-ghost use Rattle.machine_model.specs.Instruction.{done_unless, effect_of, number_or_0, sets, stores, trap_of_test};
+ghost use Rattle.machine_model.specs.Instruction.{done_unless, effect_of, sets, stores, trap_of_test};
 ghost use Rattle.machine_model.specs.Memory.{read, written};
 ghost use Rattle.machine_model.specs.Thread.{top, value_of};
 ghost use Rattle.concrete_machine.specs.Effect.{Effects, footprint_with};
@@ -13,10 +13,11 @@ ghost use Rattle.concrete_machine.specs.Frame.{HasNext};
 
 use crate::frame::{pass, running, set};
 use crate::memory::{read, write};
-use crate::operand::{number_at, value_of, value_of_binary};
+use crate::operand::{number_at, total_of_binary, value_of};
 use crate::setting::Setting;
 use ir_types::{BinOp, Inst, Kind, Module, Operand, Word};
-use machine_model::{Frame, Object, Thread, Trap};
+use machine_model::{Frame, Object, Thread};
+use run_types::Trap;
 
 /// What an instruction did.
 #[derive(Clone, Copy)]
@@ -58,13 +59,13 @@ fn compute(
     requires next { IfSome (top thread.old) HasNext }
     ensures { (frame : Frame) (objects : List Object) → top thread.old ≡ Some frame →
         Effects result (footprint_with thread.old objects) (footprint_with thread.new objects)
-        (done_unless (sets (footprint_with thread.old objects) frame to (number_or_0 (value_of_binary code.now frame op a b)))
+        (done_unless (sets (footprint_with thread.old objects) frame to (total_of_binary code.now frame op a b))
         (trap_of_test op test)) }
 {
     if let Some(trap) = trap_of_test(op, test) {
         return Effect::Traps(trap);
     }
-    let value = value_of_binary(code, running(thread), op, a, b).unwrap_or(0);
+    let value = total_of_binary(code, running(thread), op, a, b);
     set(thread, to, value);
     Effect::Done
 }

@@ -40,4 +40,5 @@ mod waiting;
 
 pub use course::{Advance, Course};
 pub use machine::Machine;
-pub use machine_model::{Pending, TurnEnd};
+pub use machine_model::Pending;
+pub use run_types::TurnEnd;

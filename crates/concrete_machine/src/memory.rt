@@ -4,7 +4,8 @@ ghost use Rattle.std.specs.Prelude.{◌≡◌, ◌-◌, ◌<◌, ◌^◌, ◌≤
 ghost use Rattle.machine_model.specs.Memory.{bytes_of, covers, is_constant, number_of, read, with_bytes, written};
 ghost use Rattle.concrete_machine.specs.Memory.{Writes};
 
-use machine_model::{Object, ObjectKind, Trap};
+use machine_model::{Object, ObjectKind};
+use run_types::Trap;
 
 /// Whether a live object has all of the range.
 fn covers(at: u64, len: u64, object: &Object) -> bool

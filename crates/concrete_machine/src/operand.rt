@@ -1,10 +1,11 @@
 //! The numbers of operands, and the numbers that an instruction decides.
 
-ghost use Rattle.std.specs.Prelude.{◌≡◌, ◌≤◌, ◌++◌, List as Sequence, OnOk, length, map, slice_index, ℕ};
-ghost use Rattle.machine_model.specs.Decision.{addresses_of, addresses_of_call, is_tested, numbers_of, test_of, value_of_binary};
+ghost use Rattle.std.specs.Prelude.{◌≡◌, ◌≤◌, ◌++◌, ◌%◌, ◌^◌, List as Sequence, OnOk, length, map, slice_index, ℕ};
+ghost use Rattle.ir_types.specs.Width.{bits_of};
+ghost use Rattle.machine_model.specs.Decision.{addresses_of, addresses_of_call, is_tested, numbers_of, test_of, total_of_binary, value_of_binary};
 ghost use Rattle.machine_model.specs.Thread.{value_of, width_of_operand};
 
-use ir_types::{BinOp, Extern, Inst, Kind, Module, OpTrap, Operand, Width, Word, binary};
+use ir_types::{BinOp, Extern, Inst, Kind, Module, OpTrap, Operand, Width, Word, binary, total};
 use machine_model::{Frame, Object};
 use rc_base::NoMemory;
 
@@ -54,11 +55,30 @@ pub fn value_of_binary(
 ) -> Result<u64, OpTrap>
     ensures { result ≡ value_of_binary code.now frame.now op a b }
 {
+    let (first, second) = words_of(code, frame, a, b);
+    let word = binary(op, first, second)?;
+    Ok(word.bits)
+}
+
+/// What it gives where it traps, too.
+pub fn total_of_binary(code: &Module, frame: &Frame, op: BinOp, a: Operand, b: Operand) -> u64
+    ensures { result ≡ total_of_binary code.now frame.now op a b }
+{
+    let (first, second) = words_of(code, frame, a, b);
+    total(op, first, second).bits
+}
+
+/// The lowest bits of two operands, both of the first one's width.
+fn words_of(code: &Module, frame: &Frame, a: Operand, b: Operand) -> (Word, Word)
+    ensures width { result.0.width ≡ width_of_operand code.now frame.now a }
+    ensures same { result.1.width ≡ result.0.width }
+    ensures first { result.0.bits ≡ value_of frame.now a % 2 ^ bits_of result.0.width }
+    ensures second { result.1.bits ≡ value_of frame.now b % 2 ^ bits_of result.0.width }
+{
     let width = width_of_operand(code, frame, a);
     let first = Word::truncated(width, value_of(frame, a));
     let second = Word::truncated(width, value_of(frame, b));
-    let word = binary(op, first, second)?;
-    Ok(word.bits)
+    (first, second)
 }
 
 /// The number of an argument, 0 past the last one.

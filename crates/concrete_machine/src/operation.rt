@@ -23,8 +23,9 @@ use crate::operand::{decide_numbers, value_of};
 use crate::setting::Setting;
 use crate::thread_end::end_thread;
 use ir_types::{Extern, Inst, Operand, Site};
-use machine_model::{Frame, Operation, State, Thread, Trap, TurnEnd};
+use machine_model::{Frame, Operation, State, Thread};
 use rc_base::NoMemory;
+use run_types::{Trap, TurnEnd};
 use std::alloc::Global;
 
 /// What a visible instruction did.

@@ -11,8 +11,9 @@ ghost use Rattle.concrete_machine.specs.ThreadEnd.{left_by};
 use crate::frame::top;
 use crate::operation::Action;
 use ir_types::ItemKind;
-use machine_model::{Frame, Object, Operation, OutItem, State, Thread};
+use machine_model::{Frame, Object, Operation, State, Thread};
 use rc_base::NoMemory;
+use run_types::OutItem;
 
 /// Adds the exit status to the output.
 fn push_status(state: &mut State, status: u8) -> Result<(), NoMemory>

@@ -8,8 +8,9 @@ ghost use Rattle.concrete_machine.specs.Turns.{turn_leaving};
 use crate::advance::run_on;
 use crate::operation::operate;
 use crate::setting::Setting;
-use machine_model::{State, TurnEnd};
+use machine_model::State;
 use rc_base::NoMemory;
+use run_types::TurnEnd;
 use std::alloc::Global;
 
 /// The turn goes on with its thread's instructions, unless the thread has ended.

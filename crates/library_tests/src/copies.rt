@@ -1,7 +1,7 @@
 //! Lists, inputs and turns, and their copies.
 
 use ir_types::{Input, List, Slot, Width};
-use machine_model::{copy_input, copy_turns};
+use run_types::{copy_input, copy_turns};
 use std::alloc::AllocError;
 use std::test::Fail;
 
@@ -26,6 +26,14 @@ fn copies_have_the_same_items(rt: HostRuntime) -> Result<(), Fail> {
     assert_eq!(rt; slots.len(), 2);
     assert!(rt; !slots.is_empty());
     let input = Input { slots };
+    assert_eq!(rt;
+        [
+            input.slot_value(0),
+            input.slot_value(3),
+            input.slot_value(7)
+        ],
+        [255, 0, u64::MAX]
+    );
     assert_eq!(rt; copied(&input)?, input);
     let copy = copy_input(alloc, &input)?;
     assert_eq!(rt; copy, input);

@@ -1,6 +1,6 @@
 //! Values at the edges of each width, worked out by the rules of the LLVM Language Reference.
 
-use ir_types::{BinOp, CmpOp, ConvOp, Kind, OpTrap, Width, Word, binary, compare, convert};
+use ir_types::{BinOp, CmpOp, ConvOp, Kind, OpTrap, Width, Word, binary, compare, convert, total};
 
 const LEAST: u64 = 1 << 63;
 
@@ -120,6 +120,27 @@ fn operations(rt: HostRuntime) {
             want,
             "{op:?} {width:?} {a} {b}"
         );
+    }
+}
+
+/// Where the table has a trap, the least value of a signed division that overflows, and else 0.
+static TOTALS: [(BinOp, Width, u64, u64, u64); 9] = [
+    (BinOp::Add, Width::W8, 255, 2, 1),
+    (BinOp::Udiv, Width::W64, 5, 0, 0),
+    (BinOp::Sdiv, Width::W8, 7, 0, 0),
+    (BinOp::Sdiv, Width::W1, 1, 1, 1),
+    (BinOp::Sdiv, Width::W8, 128, 255, 128),
+    (BinOp::Sdiv, Width::W64, LEAST, u64::MAX, LEAST),
+    (BinOp::Srem, Width::W8, 128, 255, 0),
+    (BinOp::Shl, Width::W8, 1, 8, 0),
+    (BinOp::Ashr, Width::W16, 65535, 16, 0),
+];
+
+#[test]
+fn operations_have_a_value_where_they_trap(rt: HostRuntime) {
+    for &(op, width, a, b, want) in &TOTALS {
+        let value = total(op, Word::truncated(width, a), Word::truncated(width, b));
+        assert_eq!(rt; value.bits, want, "{op:?} {width:?} {a} {b}");
     }
 }
 

@@ -4,7 +4,7 @@ mod replays;
 mod reports;
 
 use ir_types::{Function, ItemKind, List, Module};
-use machine_model::OutItem;
+use run_types::OutItem;
 use std::alloc::Global;
 use std::test::Fail;
 

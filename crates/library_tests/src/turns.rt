@@ -8,8 +8,8 @@ use ir_types::{
     Block, Extern, Function, GlobalVar, Input, Inst, ItemKind, Kind, List, Module, Operand, Site,
     Width, Word,
 };
-use machine_model::OutItem;
 use rc_base::{NoMemory, Steps};
+use run_types::OutItem;
 use std::alloc::Global;
 use std::marker::Brand;
 use std::process::Abort;

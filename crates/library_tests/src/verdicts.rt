@@ -1,9 +1,9 @@
 //! Verdicts of results made by hand.
 
 use ir_types::{Input, ItemKind, List, Slot, Width};
-use machine_model::{OutItem, Outcome, Reason, Run};
 use race_verdict::{HarmlessRun, JobKind, JobResult, Judged, Verdict, reduce};
 use rc_base::NoMemory;
+use run_types::{OutItem, Outcome, Reason, Run};
 use std::alloc::Global;
 use std::test::Fail;
 

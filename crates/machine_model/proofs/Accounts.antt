@@ -6,8 +6,8 @@ use Rattle.ir_types.specs.declared.external.ItemKind.TheVariants.{Status}
 use Rattle.ir_types.specs.declared.instruction.Inst.{Inst}
 use Rattle.ir_types.specs.declared.instruction.Inst.TheVariants.{External, Ret}
 use Rattle.ir_types.specs.declared.instruction.Site.{Site}
-use Rattle.machine_model.specs.declared.run.TurnEnd.{TurnEnd}
-use Rattle.machine_model.specs.declared.run.TurnEnd.TheVariants as ends
+use Rattle.run_types.specs.declared.run.TurnEnd.{TurnEnd}
+use Rattle.run_types.specs.declared.run.TurnEnd.TheVariants as ends
 use Rattle.machine_model.specs.declared.state.Frame.{Frame}
 use Rattle.machine_model.specs.declared.state.Operation.{Operation}
 use Rattle.machine_model.specs.declared.state.State.{State}

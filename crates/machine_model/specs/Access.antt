@@ -75,6 +75,3 @@ overlaps one other = nat_lt one.at (other.at + other.len) && nat_lt other.at (on
 -- the accesses have a byte in common, and one of them is a store
 abbrev pub conflicts : Access → Access → Bool
 conflicts one other = overlaps one other && (one.store || other.store)
-
-abbrev pub is_site : Site → Site → Bool
-is_site one other = (one.function == other.function) && (one.inst == other.inst)

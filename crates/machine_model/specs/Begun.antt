@@ -1,10 +1,10 @@
 -- Where each alternate of a race begins: the hold, and with it the turn that the first thread takes after it. No
 -- schedule has a part in either.
 use Rattle.std.specs.Prelude.{ℕ, List, [], ◌∷◌, ◌++◌, length, if◌then◌else◌}
-use Rattle.machine_model.specs.declared.race.Race.{Race}
-use Rattle.machine_model.specs.declared.run.Outcome.TheVariants as outcomes
-use Rattle.machine_model.specs.declared.run.Reason.{Reason}
-use Rattle.machine_model.specs.declared.run.Run.{Run}
+use Rattle.run_types.specs.declared.race.Race.{Race}
+use Rattle.run_types.specs.declared.run.Outcome.TheVariants as outcomes
+use Rattle.run_types.specs.declared.run.Reason.{Reason}
+use Rattle.run_types.specs.declared.run.Run.{Run}
 use Rattle.machine_model.specs.Hold.{Held}
 use Rattle.machine_model.specs.Hold.Held.{Reordered, NotEnforced, RunOver}
 use Rattle.machine_model.specs.Policy.{releasing}

@@ -5,9 +5,9 @@ use Rattle.ir_types.specs.declared.external.Extern.{Extern}
 use Rattle.ir_types.specs.declared.external.Extern.TheVariants.{Create, Join, ThreadExit, SelfNumber, MutexInit, MutexDestroy, Lock, TryLock, Unlock, CondInit, CondDestroy, CondWait, CondReturn, Signal, Broadcast, Yield, Usleep, Sleep, Malloc, Calloc, Free, Memcpy, Memmove, Memset, Strlen, LlvmMemcpy, LlvmMemmove, LlvmMemset, Putchar, Puts, Printf, Exit, Abort, AssertFail, Input}
 use Rattle.ir_types.specs.declared.external.ItemKind.TheVariants.{Byte}
 use Rattle.machine_model.specs.declared.state.Object.{Object}
-use Rattle.machine_model.specs.declared.state.OutItem.{OutItem}
-use Rattle.machine_model.specs.declared.trap.Trap.{Trap}
-use Rattle.machine_model.specs.declared.trap.Trap.TheVariants.{BadJoin}
+use Rattle.run_types.specs.declared.out_item.OutItem.{OutItem}
+use Rattle.run_types.specs.declared.trap.Trap.{Trap}
+use Rattle.run_types.specs.declared.trap.Trap.TheVariants.{BadJoin}
 use Rattle.machine_model.specs.Effect.{Effect, done_or_traps}
 use Rattle.machine_model.specs.Effect.Effect.{Done, Traps, NoRow}
 use Rattle.machine_model.specs.Memory.{written}

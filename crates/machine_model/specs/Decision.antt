@@ -14,6 +14,7 @@ use Rattle.ir_types.specs.declared.operation.OpTrap.{OpTrap}
 use Rattle.ir_types.specs.declared.operation.OpTrap.TheVariants.{DivZero, DivOverflow, Overshift}
 use Rattle.ir_types.specs.declared.«module».Module.{Module}
 use Rattle.ir_types.specs.Operation.{binary_value}
+use Rattle.ir_types.specs.Total.{total_value}
 use Rattle.ir_types.specs.Width.{bits_of}
 use Rattle.machine_model.specs.declared.state.Frame.{Frame}
 use Rattle.machine_model.specs.declared.state.Object.{Object}
@@ -83,6 +84,12 @@ abbrev pub value_of_binary : Module → Frame → BinOp → Operand → Operand 
 value_of_binary code frame op a b =
     let width = bits_of (width_of_operand code frame a) in
     binary_value op width (value_of frame a % 2 ^ width) (value_of frame b % 2 ^ width)
+
+-- what they give where the operation traps, too: so what is set is a value of the operands, whatever was decided
+abbrev pub total_of_binary : Module → Frame → BinOp → Operand → Operand → ℕ
+total_of_binary code frame op a b =
+    let width = bits_of (width_of_operand code frame a) in
+    total_value op width (value_of frame a % 2 ^ width) (value_of frame b % 2 ^ width)
 
 -- divisions and shifts are tested for a trap
 abbrev pub is_tested : BinOp → Bool

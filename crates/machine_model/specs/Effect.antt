@@ -2,7 +2,7 @@
 use Rattle.std.specs.Prelude.{ℕ, List, Result, Ok, Err}
 use Rattle.machine_model.specs.declared.state.Object.{Object}
 use Rattle.machine_model.specs.declared.state.Thread.{Thread}
-use Rattle.machine_model.specs.declared.trap.Trap.{Trap}
+use Rattle.run_types.specs.declared.trap.Trap.{Trap}
 
 -- what an invisible instruction can change: its thread and the objects
 pub record Footprint : Type 0 where

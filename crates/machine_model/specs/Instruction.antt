@@ -9,9 +9,9 @@ use Rattle.ir_types.specs.Kind.{width_of, size_of}
 use Rattle.ir_types.specs.Width.{bits_of}
 use Rattle.machine_model.specs.declared.state.Frame.{Frame}
 use Rattle.machine_model.specs.declared.state.Object.{Object}
-use Rattle.machine_model.specs.declared.trap.Trap.{Trap}
-use Rattle.machine_model.specs.declared.trap.Trap.TheVariants.{DivZero, DivOverflow, Overshift}
-use Rattle.machine_model.specs.Decision.{value_of_binary}
+use Rattle.run_types.specs.declared.trap.Trap.{Trap}
+use Rattle.run_types.specs.declared.trap.Trap.TheVariants.{DivZero, DivOverflow, Overshift}
+use Rattle.machine_model.specs.Decision.{total_of_binary}
 use Rattle.machine_model.specs.Effect.{Effect, Footprint, done_or_traps}
 use Rattle.machine_model.specs.Effect.Effect.{Done, Traps, NoRow}
 use Rattle.machine_model.specs.Memory.{read, written}
@@ -48,11 +48,6 @@ trap_of_test Shl test = trap_of_shift test
 trap_of_test Lshr test = trap_of_shift test
 trap_of_test Ashr test = trap_of_shift test
 
--- the number that an operation gives, of which only those are used that had no trap
-abbrev pub number_or_0 : Result ℕ OpTrap → ℕ
-number_or_0 (Ok number) = number
-number_or_0 (Err trap) = 0
-
 abbrev pub done_unless : {S : Type 0} → S → Option Trap → Effect S
 done_unless after None = Done 0 after
 done_unless after (Some trap) = Traps trap
@@ -71,7 +66,7 @@ stores footprint frame objects =
 -- where it reads and writes, and what it costs rest on the decided numbers alone; values rest on registers and memory
 unfoldable pub effect_of : Setting → ℕ → Footprint → Frame → List ℕ → Inst → Effect Footprint
 effect_of setting number footprint frame decided (Binary to op a b) =
-    done_unless (sets footprint frame to (number_or_0 (value_of_binary setting.code frame op a b)))
+    done_unless (sets footprint frame to (total_of_binary setting.code frame op a b))
     (trap_of_test op (test_in decided))
 effect_of setting number footprint frame decided (Load to kind at) =
     done_or_traps (λ value. sets footprint frame to (value % 2 ^ bits_of (width_of kind)))

@@ -4,8 +4,8 @@ use Rattle.std.specs.List.{list_any}
 use Rattle.machine_model.specs.declared.state.Object.{Object}
 use Rattle.machine_model.specs.declared.state.ObjectKind.{ObjectKind}
 use Rattle.machine_model.specs.declared.state.ObjectKind.TheVariants.{Global, Constant, Stack, Heap}
-use Rattle.machine_model.specs.declared.trap.Trap.{Trap}
-use Rattle.machine_model.specs.declared.trap.Trap.TheVariants.{BadAddress, ReadOnly}
+use Rattle.run_types.specs.declared.trap.Trap.{Trap}
+use Rattle.run_types.specs.declared.trap.Trap.TheVariants.{BadAddress, ReadOnly}
 
 -- the number that bytes spell, the least first
 abbrev pub number_of : List ℕ → ℕ

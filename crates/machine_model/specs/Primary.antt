@@ -1,8 +1,8 @@
 -- The run of a case that its races are judged against.
 use Rattle.ir_types.specs.declared.input.Input.{Input}
 use Rattle.ir_types.specs.declared.«module».Module.{Module}
-use Rattle.machine_model.specs.declared.case.Case.{Case}
-use Rattle.machine_model.specs.declared.run.Run.{Run}
+use Rattle.run_types.specs.declared.case.Case.{Case}
+use Rattle.run_types.specs.declared.run.Run.{Run}
 use Rattle.machine_model.specs.Run.{run_of}
 use Rattle.machine_model.specs.Setting.{Setting}
 use Rattle.machine_model.specs.System.{machine_of}

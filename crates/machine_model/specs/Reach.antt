@@ -5,10 +5,11 @@ use Rattle.std.specs.List.{list_any}
 use Rattle.ir_types.specs.declared.input.Input.{Input}
 use Rattle.ir_types.specs.declared.«module».Module.{Module}
 use Rattle.machine_model.specs.declared.access.Access.{Access}
-use Rattle.machine_model.specs.declared.case.Case.{Case}
-use Rattle.machine_model.specs.declared.race.Race.{Race}
+use Rattle.run_types.specs.declared.case.Case.{Case}
+use Rattle.run_types.specs.declared.race.Race.{Race}
 use Rattle.machine_model.specs.declared.state.State.{State}
-use Rattle.machine_model.specs.Access.{is_site, overlaps}
+use Rattle.machine_model.specs.Access.{overlaps}
+use Rattle.run_types.specs.Site.{is_site}
 use Rattle.machine_model.specs.Moment.{Moment, access_at, from_turn, moments_of}
 use Rattle.machine_model.specs.Primary.{setting_of}
 use Rattle.machine_model.specs.System.{System, machine_of}

@@ -3,10 +3,10 @@
 use Rattle.std.specs.Prelude.{◌≡◌, ℕ, List, [], ◌∷◌, ◌++◌, All}
 use Rattle.ir_types.specs.declared.input.Input.{Input}
 use Rattle.ir_types.specs.declared.«module».Module.{Module}
-use Rattle.machine_model.specs.declared.case.Case.{Case}
-use Rattle.machine_model.specs.declared.race.Race.{Race}
-use Rattle.machine_model.specs.declared.run.Outcome.TheVariants.{Spent}
-use Rattle.machine_model.specs.declared.run.Run.{Run}
+use Rattle.run_types.specs.declared.case.Case.{Case}
+use Rattle.run_types.specs.declared.race.Race.{Race}
+use Rattle.run_types.specs.declared.run.Outcome.TheVariants.{Spent}
+use Rattle.run_types.specs.declared.run.Run.{Run}
 use Rattle.machine_model.specs.declared.state.State.{State}
 use Rattle.machine_model.specs.Charge.{Charge, HasCost, IsCut, charges}
 use Rattle.machine_model.specs.Job.{AlternateJob, PrimaryJob}

@@ -1,11 +1,11 @@
 -- A run: turns of enabled threads, as a chooser picks them, until the process ends, no thread is enabled, or
 -- the budget of steps is spent.
 use Rattle.std.specs.Prelude.{ℕ, zero, suc, ◌+◌, List, [], ◌∷◌, ◌++◌, Option, Some, None}
-use Rattle.machine_model.specs.declared.run.Outcome.{Outcome}
-use Rattle.machine_model.specs.declared.run.Outcome.TheVariants as outcomes
-use Rattle.machine_model.specs.declared.run.Run.{Run}
-use Rattle.machine_model.specs.declared.run.TurnEnd.{TurnEnd}
-use Rattle.machine_model.specs.declared.run.TurnEnd.TheVariants as ends
+use Rattle.run_types.specs.declared.run.Outcome.{Outcome}
+use Rattle.run_types.specs.declared.run.Outcome.TheVariants as outcomes
+use Rattle.run_types.specs.declared.run.Run.{Run}
+use Rattle.run_types.specs.declared.run.TurnEnd.{TurnEnd}
+use Rattle.run_types.specs.declared.run.TurnEnd.TheVariants as ends
 use Rattle.machine_model.specs.Policy.{Policy, Choice, from_front, choose}
 use Rattle.machine_model.specs.System.{System}
 use Rattle.machine_model.specs.Turn.{Turned}

@@ -2,7 +2,7 @@
 use Rattle.std.specs.Prelude.{ℕ, Bool, false, List, [], slice_get, Option, Some, None}
 use Rattle.machine_model.specs.contracts.state.StatePartialEq.TheImpl as state
 use Rattle.machine_model.specs.declared.pending.Pending.{Pending}
-use Rattle.machine_model.specs.declared.state.OutItem.{OutItem}
+use Rattle.run_types.specs.declared.out_item.OutItem.{OutItem}
 use Rattle.machine_model.specs.declared.state.State.{State}
 use Rattle.machine_model.specs.declared.state.Thread.{Thread}
 use Rattle.machine_model.specs.Access.{pending_of_state}

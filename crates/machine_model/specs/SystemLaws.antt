@@ -3,8 +3,8 @@
 use Rattle.std.specs.Prelude.{◌≡◌, ◌≢◌, ℕ, ◌+◌, ◌≤◌, [], Contains, length, Some}
 use Rattle.std.specs.List.Sorted.{IsStrictlyIncreasing}
 use Rattle.machine_model.specs.declared.access.Access.{Access}
-use Rattle.machine_model.specs.declared.run.TurnEnd.{TurnEnd}
-use Rattle.machine_model.specs.declared.run.TurnEnd.TheVariants as ends
+use Rattle.run_types.specs.declared.run.TurnEnd.{TurnEnd}
+use Rattle.run_types.specs.declared.run.TurnEnd.TheVariants as ends
 use Rattle.machine_model.specs.Access.{access_of}
 use Rattle.machine_model.specs.System.{System}
 use Rattle.machine_model.specs.Turn.{Turned}

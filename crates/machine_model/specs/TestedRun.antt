@@ -1,7 +1,7 @@
 -- A run with the repeat test after each of its turns.
 use Rattle.std.specs.Prelude.{ℕ, zero, suc, ◌+◌, List, [], ◌∷◌, ◌++◌, length, if◌then◌else◌}
-use Rattle.machine_model.specs.declared.run.Outcome.TheVariants as outcomes
-use Rattle.machine_model.specs.declared.run.Run.{Run}
+use Rattle.run_types.specs.declared.run.Outcome.TheVariants as outcomes
+use Rattle.run_types.specs.declared.run.Run.{Run}
 use Rattle.machine_model.specs.Repeat.{Snapshot, earlier_turn, repeats, snapshot_of}
 use Rattle.machine_model.specs.Run.{Advance, Course, advanced, first_course, concluded}
 use Rattle.machine_model.specs.Run.Advance.{Onward, Over}

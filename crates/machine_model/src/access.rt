@@ -1,7 +1,8 @@
 //! Accesses of memory that are turns of their own.
 
 ghost use Rattle.std.specs.Prelude.{◌≡◌, ◌+◌, nat_lt};
-ghost use Rattle.machine_model.specs.Access.{access_of, conflicts, is_site, overlaps};
+ghost use Rattle.machine_model.specs.Access.{access_of, conflicts, overlaps};
+ghost use Rattle.run_types.specs.Site.{is_site};
 
 use crate::pending::Pending;
 use ir_types::Site;

@@ -8,31 +8,21 @@
 //! - `case`, `race`: what is asked of a recorded run
 //! - `copy`: equal inputs and turns
 //! - `rows`: which instructions it runs
-//! - `laws`: what holds of every run
 //!
 //! The definitions of step, turn and run are in `specs/`.
 #![tactic(auto)]
 
 mod access;
-mod case;
-mod copy;
-pub mod laws;
+mod mem_error;
 mod mode;
 mod pending;
-mod race;
 mod rows;
-mod run;
 mod state;
 mod state_copy;
-mod trap;
 
 pub use access::Access;
-pub use case::{Case, Key};
-pub use copy::{copy_input, copy_turns};
+pub use mem_error::MemError;
 pub use mode::Mode;
 pub use pending::Pending;
-pub use race::{Path, Race};
 pub use rows::has_row;
-pub use run::{Decisions, Outcome, Reason, Run, TurnEnd, Turns};
-pub use state::{Condition, Frame, Lock, Object, ObjectKind, Operation, OutItem, State, Thread};
-pub use trap::{MemError, Trap};
+pub use state::{Condition, Frame, Lock, Object, ObjectKind, Operation, State, Thread};

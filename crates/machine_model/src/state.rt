@@ -1,6 +1,7 @@
 //! The state of a machine.
 
-use ir_types::{Bytes, ItemKind, List, Site};
+use ir_types::{Bytes, List, Site};
+use run_types::OutItem;
 
 /// All that a run changes. Thread `t` is member `t` of `threads`; the others are in order of creation.
 #[derive(Debug, Drop, PartialEq, Eq)]
@@ -84,11 +85,4 @@ pub struct Lock {
 pub struct Condition {
     pub at: u64,
     pub waiters: List<u32>,
-}
-
-/// A printed item: a byte, a number, or the exit status.
-#[derive(Clone, Copy, Debug, PartialEq, Eq)]
-pub struct OutItem {
-    pub kind: ItemKind,
-    pub bits: u64,
 }

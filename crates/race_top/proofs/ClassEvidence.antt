@@ -11,14 +11,14 @@ use Rattle.ir_types.specs.contracts.external.ItemKind as item_kind
 use Rattle.ir_types.specs.declared.external.ItemKind.{ItemKind}
 use Rattle.ir_types.specs.declared.input.Input.{Input}
 use Rattle.ir_types.specs.declared.«module».Module.{Module}
-use Rattle.machine_model.specs.contracts.state.OutItemPartialEq.TheImpl as item
-use Rattle.machine_model.specs.declared.case.Case.{Case}
-use Rattle.machine_model.specs.declared.race.Race.{Race}
-use Rattle.machine_model.specs.declared.run.Outcome.{Outcome}
-use Rattle.machine_model.specs.declared.run.Outcome.TheVariants.{Exit, Trap, Deadlock, Repeats, Spent}
-use Rattle.machine_model.specs.declared.run.Reason.{Reason}
-use Rattle.machine_model.specs.declared.run.Run.{Run}
-use Rattle.machine_model.specs.declared.state.OutItem.{OutItem}
+use Rattle.run_types.specs.contracts.out_item.OutItemPartialEq.TheImpl as item
+use Rattle.run_types.specs.declared.case.Case.{Case}
+use Rattle.run_types.specs.declared.race.Race.{Race}
+use Rattle.run_types.specs.declared.run.Outcome.{Outcome}
+use Rattle.run_types.specs.declared.run.Outcome.TheVariants.{Exit, Trap, Deadlock, Repeats, Spent}
+use Rattle.run_types.specs.declared.run.Reason.{Reason}
+use Rattle.run_types.specs.declared.run.Run.{Run}
+use Rattle.run_types.specs.declared.out_item.OutItem.{OutItem}
 use Rattle.machine_model.specs.Job.{Alternate, AlternateJob, PrimaryJob}
 use Rattle.machine_model.specs.Job.Alternate.{Ran, Not, Absent}
 use Rattle.machine_model.specs.Reach.{Reaches}

@@ -4,10 +4,10 @@ use Rattle.std.specs.Prelude.{Contains, IsSome, ◌&&◌}
 use Rattle.ir_types.specs.declared.input.Input.{Input}
 use Rattle.ir_types.specs.declared.«module».Module.{Module}
 use Rattle.machine_model.specs.declared.access.Access.{Access}
-use Rattle.machine_model.specs.declared.case.Case.{Case}
-use Rattle.machine_model.specs.declared.race.Race.{Race}
-use Rattle.machine_model.specs.declared.run.Reason.{Reason}
-use Rattle.machine_model.specs.declared.run.Run.{Run}
+use Rattle.run_types.specs.declared.case.Case.{Case}
+use Rattle.run_types.specs.declared.race.Race.{Race}
+use Rattle.run_types.specs.declared.run.Reason.{Reason}
+use Rattle.run_types.specs.declared.run.Run.{Run}
 use Rattle.machine_model.specs.declared.state.State.{State}
 use Rattle.machine_model.specs.Begun.{Begun, begun_after}
 use Rattle.machine_model.specs.Begun.Begun.{Complete, NotBegun, Ready}

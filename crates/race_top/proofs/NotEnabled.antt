@@ -3,16 +3,16 @@ use Rattle.std.proofs.Common.{◌≡◌, ◌≢◌, ℕ, zero, suc, ◌+◌, ◌
 use Rattle.std.specs.Prelude.{Contains, not, slice_get}
 use Rattle.std.specs.List.{position_or_len, zip}
 use Rattle.std.proofs.lemmas.Bool.{eqb-false, eqb-true, ltb-true}
-use Rattle.machine_model.specs.declared.run.Outcome.{Outcome}
-use Rattle.machine_model.specs.declared.run.Outcome.TheVariants as outcomes
-use Rattle.machine_model.specs.declared.run.Run.{Run}
-use Rattle.machine_model.specs.declared.run.TurnEnd.{TurnEnd}
-use Rattle.machine_model.specs.declared.run.TurnEnd.TheVariants as ends
+use Rattle.run_types.specs.declared.run.Outcome.{Outcome}
+use Rattle.run_types.specs.declared.run.Outcome.TheVariants as outcomes
+use Rattle.run_types.specs.declared.run.Run.{Run}
+use Rattle.run_types.specs.declared.run.TurnEnd.{TurnEnd}
+use Rattle.run_types.specs.declared.run.TurnEnd.TheVariants as ends
 use Rattle.machine_model.specs.Policy.{Choice, choose}
 use Rattle.machine_model.specs.ReplayLaws.{course_after, onward_from}
 use Rattle.machine_model.specs.Run.{Course, advanced, advanced_by, advanced_with, after_turn, first_course, onward_or_concluded, run_from, run_of}
 use Rattle.machine_model.specs.System.{System}
-use Rattle.machine_model.proofs.Replays.{Chooser, Continues, IsAt, chosen-begins, follows-next, may-choose, mode-stays, next-in, run_from-begins, slice_get-after}
+use Rattle.machine_laws.proofs.Replays.{Chooser, Continues, IsAt, chosen-begins, follows-next, may-choose, mode-stays, next-in, run_from-begins, slice_get-after}
 use Rattle.race_top.specs.TraceReplay.{error_at_end, error_from, first_other, replay_error}
 use Rattle.race_top.specs.declared.trace_replay.ReplayError.{ReplayError}
 use Rattle.race_top.specs.declared.trace_replay.ReplayError.TheVariants.{TurnNotEnabled}

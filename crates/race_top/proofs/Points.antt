@@ -4,8 +4,8 @@ use Rattle.std.specs.Prelude.{IfSome, option_map}
 use Rattle.std.proofs.lemmas.List.{map_push}
 use Rattle.ir_types.specs.declared.input.Input.{Input}
 use Rattle.ir_types.specs.declared.«module».Module.{Module}
-use Rattle.machine_model.specs.declared.case.Case.{Case}
-use Rattle.machine_model.specs.declared.race.Race.{Race}
+use Rattle.run_types.specs.declared.case.Case.{Case}
+use Rattle.run_types.specs.declared.race.Race.{Race}
 use Rattle.machine_model.specs.declared.state.State.{State}
 use Rattle.machine_model.specs.Job.{point_of, point_at, point_in, snapshots}
 use Rattle.machine_model.specs.Moment.{Moment, access_at, from_turn}

@@ -4,13 +4,13 @@ use Rattle.std.specs.Prelude.{not}
 use Rattle.std.specs.List.{position_or_len, zip}
 use Rattle.std.proofs.lemmas.Bool.{eq-eqb, eqb-true, ltb-false}
 use Rattle.std.proofs.lemmas.Bool.Decides.{nat_tests}
-use Rattle.machine_model.specs.declared.run.Outcome.{Outcome}
-use Rattle.machine_model.specs.declared.run.Outcome.TheVariants as outcomes
-use Rattle.machine_model.specs.declared.run.Run.{Run}
+use Rattle.run_types.specs.declared.run.Outcome.{Outcome}
+use Rattle.run_types.specs.declared.run.Outcome.TheVariants as outcomes
+use Rattle.run_types.specs.declared.run.Run.{Run}
 use Rattle.machine_model.specs.Policy.{Choice, choose}
 use Rattle.machine_model.specs.Run.{Course, advanced, advanced_with, first_course, onward_or_concluded, run_from, run_of}
 use Rattle.machine_model.specs.System.{System}
-use Rattle.machine_model.proofs.Replays.{Begins, chosen-begins, run_from-begins}
+use Rattle.machine_laws.proofs.Replays.{Begins, chosen-begins, run_from-begins}
 use Rattle.race_top.specs.TraceReplay.{error_at_end, error_from, first_other, is_listed, replay_error}
 
 abbrev pub differs : ℕ × ℕ → Bool

@@ -6,7 +6,7 @@ use Rattle.std.proofs.lemmas.List.{length-map}
 use Rattle.std.proofs.lemmas.List.Sums.{length-filter, sum_by-cons, sum_by_push}
 use Rattle.std.proofs.lemmas.Option.{slice_get_past}
 use Rattle.ir_types.specs.declared.«module».Module.{Module}
-use Rattle.machine_model.specs.declared.case.Case.{Case}
+use Rattle.run_types.specs.declared.case.Case.{Case}
 use Rattle.machine_model.specs.declared.state.State.{State}
 use Rattle.machine_model.specs.Moment.{Moment}
 use Rattle.machine_model.specs.Policy.{Policy}

@@ -2,11 +2,11 @@
 use Rattle.std.proofs.Common.{◌≡◌, ℕ, ◌<◌, ◌⊎◌, inl, inr, IsTrue, List, Ok, refl, subst}
 use Rattle.ir_types.specs.declared.input.Input.{Input}
 use Rattle.ir_types.specs.declared.«module».Module.{Module}
-use Rattle.machine_model.specs.declared.case.Case.{Case}
-use Rattle.machine_model.specs.declared.race.Race.{Race}
-use Rattle.machine_model.specs.declared.run.Outcome.{Outcome}
-use Rattle.machine_model.specs.declared.run.Outcome.TheVariants.{Exit, Trap, Deadlock, Repeats, Spent}
-use Rattle.machine_model.specs.declared.run.Run.{Run}
+use Rattle.run_types.specs.declared.case.Case.{Case}
+use Rattle.run_types.specs.declared.race.Race.{Race}
+use Rattle.run_types.specs.declared.run.Outcome.{Outcome}
+use Rattle.run_types.specs.declared.run.Outcome.TheVariants.{Exit, Trap, Deadlock, Repeats, Spent}
+use Rattle.run_types.specs.declared.run.Run.{Run}
 use Rattle.machine_model.specs.Job.Alternate.{Ran}
 use Rattle.machine_model.specs.Moment.{moments_of}
 use Rattle.machine_model.specs.Primary.{setting_of}

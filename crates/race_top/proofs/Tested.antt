@@ -1,7 +1,7 @@
 -- What a run with the repeat test gives from a course on, turn by turn.
 use Rattle.std.proofs.Common.{◌≡◌, ℕ, zero, suc, ◌+◌, Bool, true, false, cond, List, [], ◌∷◌, ◌++◌, length, refl, sym, ◌∙◌, arith}
-use Rattle.machine_model.specs.declared.run.Outcome.TheVariants as outcomes
-use Rattle.machine_model.specs.declared.run.Run.{Run}
+use Rattle.run_types.specs.declared.run.Outcome.TheVariants as outcomes
+use Rattle.run_types.specs.declared.run.Run.{Run}
 use Rattle.machine_model.specs.declared.state.State.{State}
 use Rattle.machine_model.specs.Begun.{begun_by}
 use Rattle.machine_model.specs.Begun.Begun.{Complete, Ready}

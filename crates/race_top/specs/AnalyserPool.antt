@@ -3,11 +3,11 @@ use Rattle.std.specs.Prelude.{ℕ, zero, suc, Bool, ◌&&◌, List, if◌then◌
 use Rattle.std.specs.Cmp.Lexicographic.{pointwise}
 use Rattle.ir_types.specs.declared.input.Input.{Input}
 use Rattle.ir_types.specs.declared.«module».Module.{Module}
-use Rattle.machine_model.specs.contracts.state.OutItemPartialEq.TheImpl as item
-use Rattle.machine_model.specs.declared.case.Case.{Case}
-use Rattle.machine_model.specs.declared.race.Race.{Race}
-use Rattle.machine_model.specs.declared.run.Run.{Run}
-use Rattle.machine_model.specs.declared.state.OutItem.{OutItem}
+use Rattle.run_types.specs.contracts.out_item.OutItemPartialEq.TheImpl as item
+use Rattle.run_types.specs.declared.case.Case.{Case}
+use Rattle.run_types.specs.declared.race.Race.{Race}
+use Rattle.run_types.specs.declared.run.Run.{Run}
+use Rattle.run_types.specs.declared.out_item.OutItem.{OutItem}
 use Rattle.machine_model.specs.Job.{Alternate, AlternateJob, PrimaryJob}
 use Rattle.machine_model.specs.Job.Alternate.{Ran, Not, Absent}
 use Rattle.race_verdict.specs.declared.result.JobKind.{JobKind}

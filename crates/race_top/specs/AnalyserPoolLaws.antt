@@ -1,8 +1,8 @@
 -- What the verdict asks of the results of a race's jobs, the jobs give.
 use Rattle.std.specs.Prelude.{◌≡◌, true}
 use Rattle.ir_types.specs.declared.«module».Module.{Module}
-use Rattle.machine_model.specs.declared.case.Case.{Case}
-use Rattle.machine_model.specs.declared.race.Race.{Race}
+use Rattle.run_types.specs.declared.case.Case.{Case}
+use Rattle.run_types.specs.declared.race.Race.{Race}
 use Rattle.machine_model.specs.Reach.{Reaches}
 use Rattle.race_verdict.specs.Results.{AreResults}
 use Rattle.race_top.specs.AnalyserPool.{results_of}

@@ -1,8 +1,8 @@
 -- What holds of every race of two recorded turns.
 use Rattle.std.specs.Prelude.{◌≡◌, ◌≢◌, ℕ, true, Ok}
 use Rattle.ir_types.specs.declared.«module».Module.{Module}
-use Rattle.machine_model.specs.declared.case.Case.{Case}
-use Rattle.machine_model.specs.declared.race.Race.{Race}
+use Rattle.run_types.specs.declared.case.Case.{Case}
+use Rattle.run_types.specs.declared.race.Race.{Race}
 use Rattle.machine_model.specs.Reach.{Reaches}
 use Rattle.race_top.specs.CheckRace.{RaceOf}
 

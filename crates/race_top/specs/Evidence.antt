@@ -3,11 +3,11 @@
 use Rattle.std.specs.Prelude.{◌≡◌, ◌≢◌, ℕ, ◌<◌, ◌⊎◌, IsTrue, List, [], All, Contains, Ok}
 use Rattle.ir_types.specs.declared.input.Input.{Input}
 use Rattle.ir_types.specs.declared.«module».Module.{Module}
-use Rattle.machine_model.specs.declared.case.Case.{Case}
-use Rattle.machine_model.specs.declared.race.Race.{Race}
-use Rattle.machine_model.specs.declared.run.Reason.{Reason}
-use Rattle.machine_model.specs.declared.run.Run.{Run}
-use Rattle.machine_model.specs.declared.state.OutItem.{OutItem}
+use Rattle.run_types.specs.declared.case.Case.{Case}
+use Rattle.run_types.specs.declared.race.Race.{Race}
+use Rattle.run_types.specs.declared.run.Reason.{Reason}
+use Rattle.run_types.specs.declared.run.Run.{Run}
+use Rattle.run_types.specs.declared.out_item.OutItem.{OutItem}
 use Rattle.machine_model.specs.Job.Alternate.{Ran, Not}
 use Rattle.machine_model.specs.Moment.{moments_of}
 use Rattle.machine_model.specs.Primary.{setting_of}

@@ -1,7 +1,7 @@
 -- What the code of the hold and of the jobs answers, in terms of their definitions.
 use Rattle.std.specs.Prelude.{◌≡◌, ℕ, ◌≤◌, List, Option, Some, None}
 use Rattle.ir_types.specs.declared.«module».Module.{Module}
-use Rattle.machine_model.specs.declared.case.Case.{Case}
+use Rattle.run_types.specs.declared.case.Case.{Case}
 use Rattle.machine_model.specs.declared.state.State.{State}
 use Rattle.machine_model.specs.Begun.{Begun}
 use Rattle.machine_model.specs.Begun.Begun.{Ready, NotBegun, Complete}

@@ -1,8 +1,8 @@
 -- The races of a case, or the first pair of turns that is none.
 use Rattle.std.specs.Prelude.{ℕ, ◌+◌, List, [], ◌∷◌, Result, Ok}
 use Rattle.ir_types.specs.declared.«module».Module.{Module}
-use Rattle.machine_model.specs.declared.case.Case.{Case}
-use Rattle.machine_model.specs.declared.race.Race.{Race}
+use Rattle.run_types.specs.declared.case.Case.{Case}
+use Rattle.run_types.specs.declared.race.Race.{Race}
 use Rattle.rc_base.specs.Failures.{◌>>=◌}
 use Rattle.race_top.specs.declared.refusal.Refusal.{Refusal}
 use Rattle.race_top.specs.declared.refusal.Refusal.TheVariants as refusals

@@ -1,7 +1,7 @@
 -- What holds of every refusal of a recorded run, whatever the module, the input and the watched sites.
 use Rattle.std.specs.Prelude.{◌≡◌, ◌≢◌, ℕ, ◌+◌, List, Contains, length, slice_get, take, Some, None}
-use Rattle.machine_model.specs.declared.run.Outcome.TheVariants as outcomes
-use Rattle.machine_model.specs.declared.run.Run.{Run}
+use Rattle.run_types.specs.declared.run.Outcome.TheVariants as outcomes
+use Rattle.run_types.specs.declared.run.Run.{Run}
 use Rattle.machine_model.specs.ReplayLaws.{course_after}
 use Rattle.machine_model.specs.Run.{first_course, run_of}
 use Rattle.machine_model.specs.System.{System}

@@ -1,7 +1,7 @@
 -- What the code sees of two turns of the recorded run, in terms of the run's moments.
 use Rattle.std.specs.Prelude.{◌≡◌, ℕ, ◌-◌, ◌<◌, List, [], ◌∷◌, map, slice_get, take, Option, Some, None}
 use Rattle.ir_types.specs.declared.«module».Module.{Module}
-use Rattle.machine_model.specs.declared.case.Case.{Case}
+use Rattle.run_types.specs.declared.case.Case.{Case}
 use Rattle.machine_model.specs.declared.state.State.{State}
 use Rattle.machine_model.specs.Moment.{Moment, access_at, moments_from, onward_or_none}
 use Rattle.machine_model.specs.Policy.{Policy}

@@ -2,10 +2,10 @@
 use Rattle.std.specs.Prelude.{ℕ, ◌+◌, Bool, not, ◌&&◌, ◌==◌, nat_lt, nat_le, if◌then◌else◌, List, codes, length, position, Option, Some, None, Result, Ok, Err}
 use Rattle.std.specs.List.{zip}
 use Rattle.ir_types.specs.declared.«module».Module.{Module}
-use Rattle.machine_model.specs.declared.case.Case.{Case}
-use Rattle.machine_model.specs.declared.run.Outcome.{Outcome}
-use Rattle.machine_model.specs.declared.run.Outcome.TheVariants as outcomes
-use Rattle.machine_model.specs.declared.run.Run.{Run}
+use Rattle.run_types.specs.declared.case.Case.{Case}
+use Rattle.run_types.specs.declared.run.Outcome.{Outcome}
+use Rattle.run_types.specs.declared.run.Outcome.TheVariants as outcomes
+use Rattle.run_types.specs.declared.run.Run.{Run}
 use Rattle.machine_model.specs.Primary.{Primary}
 use Rattle.race_top.specs.declared.trace_replay.ReplayError.{ReplayError}
 use Rattle.race_top.specs.declared.trace_replay.ReplayError.TheVariants.{TurnNotEnabled, EndsEarly, Spent}

@@ -13,10 +13,10 @@ ghost use Rattle.race_top.specs.AnalyserPool.{report_of, reports_of};
 
 use crate::analyser_pool::jobs::results;
 use ir_types::Module;
-use machine_model::{Case, Race};
 use race_verdict::reduce;
 use rc_base::NoMemory;
 use report_text::RaceReport;
+use run_types::{Case, Race};
 use std::alloc::Global;
 
 /// The classes of some races that the recorded run reaches, in their order.

@@ -10,8 +10,8 @@ use crate::stop::Stop;
 use crate::trace_replay::check_race;
 use crate::trace_replay::laws::recorded_run_reaches;
 use ir_types::Module;
-use machine_model::{Case, Race};
 use rc_base::NoMemory;
+use run_types::{Case, Race};
 use std::alloc::Global;
 
 /// The races of a case in order, or the first pair of recorded turns that is none.

@@ -12,8 +12,8 @@ use crate::stop::Stop;
 use crate::trace_replay::replay;
 use case_text::read_case;
 use ir_types::Module;
-use machine_model::{Case, Run};
 use module_text::load_module;
+use run_types::{Case, Run};
 use std::alloc::Global;
 
 /// A module and a case for it, with the run that the case records.

@@ -17,8 +17,8 @@ ghost use Rattle.race_top.specs.TraceReplay.{error_at_end, first_other, name_of,
 pub use check::{RaceError, check_race};
 use concrete_machine::{Advance, Course};
 use ir_types::{Input, Module};
-use machine_model::{Case, Outcome, Run};
 use rc_base::{Failure, NoMemory, Steps};
+use run_types::{Case, Outcome, Run};
 use std::alloc::Global;
 use std::marker::Brand;
 use std::sync::ledger::{Blank, Ledger};

@@ -5,10 +5,10 @@ use Rattle.std.specs.Prelude.{ℕ, Bool, true, false, not, ◌&&◌, ◌||◌, �
 use Rattle.std.specs.Cmp.Lexicographic.{pointwise}
 use Rattle.std.specs.List.{filter_map, list_any}
 use Rattle.ir_types.specs.contracts.input.InputPartialEq.TheImpl as inputs
-use Rattle.machine_model.specs.declared.run.Outcome.{Outcome}
-use Rattle.machine_model.specs.declared.run.Outcome.TheVariants.{Exit, Trap, Deadlock, Repeats, Spent}
-use Rattle.machine_model.specs.declared.run.Reason.{Reason}
-use Rattle.machine_model.specs.declared.run.Run.{Run}
+use Rattle.run_types.specs.declared.run.Outcome.{Outcome}
+use Rattle.run_types.specs.declared.run.Outcome.TheVariants.{Exit, Trap, Deadlock, Repeats, Spent}
+use Rattle.run_types.specs.declared.run.Reason.{Reason}
+use Rattle.run_types.specs.declared.run.Run.{Run}
 use Rattle.race_verdict.specs.declared.result.JobKind.{JobKind}
 use Rattle.race_verdict.specs.declared.result.JobKind.TheVariants.{Ran, Not, Absent, Skipped}
 use Rattle.race_verdict.specs.declared.result.JobResult.{JobResult}

@@ -1,7 +1,7 @@
 -- What holds of the verdict of every list of results.
 use Rattle.std.specs.Prelude.{◌≡◌, ◌≢◌, ◌↔◌, ℕ, ◌<◌, List, [], ◌∷◌, ◌++◌, All, Contains, Option, Some, None, IsSome, IsTrue}
-use Rattle.machine_model.specs.declared.run.Reason.{Reason}
-use Rattle.machine_model.specs.declared.run.Run.{Run}
+use Rattle.run_types.specs.declared.run.Reason.{Reason}
+use Rattle.run_types.specs.declared.run.Run.{Run}
 use Rattle.race_verdict.specs.declared.result.JobKind.TheVariants.{Ran, Not}
 use Rattle.race_verdict.specs.declared.result.JobResult.{JobResult}
 use Rattle.race_verdict.specs.declared.verdict.HarmlessRun.{HarmlessRun}

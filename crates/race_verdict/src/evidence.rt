@@ -7,8 +7,8 @@ ghost use Rattle.race_verdict.specs.Verdict.{counts, difference, is_exit, first_
 use crate::result::{JobKind, JobResult, Judged};
 use crate::verdict::Verdict;
 use ir_types::List;
-use machine_model::{OutItem, Outcome, Reason, Run, Turns, copy_input, copy_turns};
 use rc_base::NoMemory;
+use run_types::{OutItem, Outcome, Reason, Run, Turns, copy_input, copy_turns};
 use std::alloc::Global;
 
 /// Whether a run that ends so violates the specification.

@@ -8,8 +8,8 @@ use crate::evidence::{copy_output, exiting, is_alternate};
 use crate::result::{JobResult, Judged};
 use crate::verdict::HarmlessRun;
 use ir_types::List;
-use machine_model::{copy_input, copy_turns};
 use rc_base::NoMemory;
+use run_types::{copy_input, copy_turns};
 use std::alloc::Global;
 
 /// The run of an alternate that prints what its path admits.

@@ -1,7 +1,7 @@
 //! What one job of a race gave.
 
 use ir_types::Input;
-use machine_model::{Reason, Run, Turns};
+use run_types::{Reason, Run, Turns};
 
 /// The result of a job. Job (p, 0) is the primary of path p with the repeat test, and job (p, j) from j = 1 is its
 /// alternate with schedule j.

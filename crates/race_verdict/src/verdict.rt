@@ -1,7 +1,7 @@
 //! The class of a race, with its evidence.
 
 use ir_types::{Input, List};
-use machine_model::{OutItem, Outcome, Reason, Turns};
+use run_types::{OutItem, Outcome, Reason, Turns};
 
 /// What the orders of a race lead to, with the job that shows it.
 #[derive(Debug, Drop)]

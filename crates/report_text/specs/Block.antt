@@ -2,8 +2,8 @@
 use Rattle.std.specs.Prelude.{ℕ, List, [], ◌∷◌, ◌++◌, codes, decimal, length}
 use Rattle.std.specs.List.{flat_map}
 use Rattle.ir_types.specs.declared.«module».Module.{Module}
-use Rattle.machine_model.specs.declared.run.Reason.{Reason}
-use Rattle.machine_model.specs.declared.run.Reason.TheVariants as reasons
+use Rattle.run_types.specs.declared.run.Reason.{Reason}
+use Rattle.run_types.specs.declared.run.Reason.TheVariants as reasons
 use Rattle.race_verdict.specs.declared.verdict.HarmlessRun.{HarmlessRun}
 use Rattle.race_verdict.specs.declared.verdict.Verdict.{Verdict}
 use Rattle.race_verdict.specs.declared.verdict.Verdict.TheVariants.{SpecViolated, SingleOrdering, OutputDiffers, Unresolved, Harmless}

@@ -7,7 +7,7 @@ use Rattle.ir_types.specs.declared.word.Width.{Width}
 use Rattle.ir_types.specs.declared.word.Width.TheVariants.{W8, W32, W64}
 use Rattle.ir_types.specs.Operation.{signed_value}
 use Rattle.ir_types.specs.Width.{bits_of}
-use Rattle.machine_model.specs.declared.state.OutItem.{OutItem}
+use Rattle.run_types.specs.declared.out_item.OutItem.{OutItem}
 use Rattle.report_text.specs.Lines.{words_text}
 
 abbrev pub width_of : ItemKind → Width

@@ -3,10 +3,10 @@ use Rattle.std.specs.Prelude.{ℕ, List, [], ◌++◌, codes, decimal, slice_get
 use Rattle.std.specs.Option.{option_map, unwrap_or}
 use Rattle.ir_types.specs.declared.«module».Function.{Function}
 use Rattle.ir_types.specs.declared.«module».Module.{Module}
-use Rattle.machine_model.specs.declared.run.Outcome.{Outcome}
-use Rattle.machine_model.specs.declared.run.Outcome.TheVariants as outcomes
-use Rattle.machine_model.specs.declared.trap.Trap.{Trap}
-use Rattle.machine_model.specs.declared.trap.Trap.TheVariants.{DivZero, DivOverflow, Overshift, BadAddress, ReadOnly, BadFree, NotOwner, BadLock, BadJoin, Unreachable, Abort, Assert, FrameLimit, MemoryLimit}
+use Rattle.run_types.specs.declared.run.Outcome.{Outcome}
+use Rattle.run_types.specs.declared.run.Outcome.TheVariants as outcomes
+use Rattle.run_types.specs.declared.trap.Trap.{Trap}
+use Rattle.run_types.specs.declared.trap.Trap.TheVariants.{DivZero, DivOverflow, Overshift, BadAddress, ReadOnly, BadFree, NotOwner, BadLock, BadJoin, Unreachable, Abort, Assert, FrameLimit, MemoryLimit}
 
 abbrev pub trap_name : Trap → List ℕ
 trap_name DivZero = codes "DivZero"

@@ -1,7 +1,7 @@
 -- The text of a replayed run.
 use Rattle.std.specs.Prelude.{ℕ, List, [], ◌∷◌, ◌++◌, codes}
 use Rattle.ir_types.specs.declared.«module».Module.{Module}
-use Rattle.machine_model.specs.declared.run.Run.{Run}
+use Rattle.run_types.specs.declared.run.Run.{Run}
 use Rattle.report_text.specs.Items.{items_text}
 use Rattle.text_lines.specs.Part.{lines_text}
 use Rattle.report_text.specs.Outcome.{outcome_text}

@@ -16,8 +16,8 @@ use crate::outcome::push_outcome;
 use crate::report::RaceReport;
 use crate::turns::push_turns;
 use ir_types::{Input, List, Module};
-use machine_model::{OutItem, Outcome, Reason, Turns};
 use race_verdict::{HarmlessRun, Verdict};
+use run_types::{OutItem, Outcome, Reason, Turns};
 use std::alloc::AllocError;
 
 /// Appends the block of the race of this number.

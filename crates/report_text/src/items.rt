@@ -5,7 +5,7 @@ ghost use Rattle.report_text.specs.Items.{item_text, items_text, number_of, numb
 
 use crate::numbers::{push_byte_digits, push_decimal, push_hexadecimal, push_signed_decimal};
 use ir_types::{ItemKind, Width, Word};
-use machine_model::OutItem;
+use run_types::OutItem;
 use std::alloc::AllocError;
 
 /// Appends printed items, parted by spaces.

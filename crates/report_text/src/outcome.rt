@@ -5,7 +5,7 @@ ghost use Rattle.report_text.specs.Outcome.{function_name, outcome_text, trap_na
 
 use crate::numbers::push_decimal;
 use ir_types::{Module, Site};
-use machine_model::{Outcome, Trap};
+use run_types::{Outcome, Trap};
 use std::alloc::AllocError;
 
 /// Appends how a run of the module ended.

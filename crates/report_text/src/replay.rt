@@ -7,8 +7,8 @@ use crate::items::push_items;
 use crate::outcome::push_outcome;
 use crate::turns::push_turns;
 use ir_types::Module;
-use machine_model::Run;
 use rc_base::NoMemory;
+use run_types::Run;
 use std::alloc::Global;
 
 /// The text of a replayed run.

@@ -7,8 +7,9 @@ ghost use Rattle.machine_model.specs.Repeat.{same_policy};
 ghost use Rattle.turn_policy.specs.Policy.{Chooses, choice_of, free_threads};
 
 use crate::follow::{next_above, next_listed};
-use machine_model::{Mode, Turns, copy_turns};
+use machine_model::Mode;
 use rc_base::NoMemory;
+use run_types::{Turns, copy_turns};
 use std::alloc::Global;
 use std::marker::Model;
 

@@ -2,8 +2,8 @@
 
 use crate::printed::{item, module_of};
 use ir_types::{ItemKind, List, Site};
-use machine_model::{Outcome, Run, Trap};
 use report_text::print_replay;
+use run_types::{Outcome, Run, Trap};
 use std::test::Fail;
 
 const TOP: &str = "portend-replay 1

@@ -4,9 +4,9 @@ ghost use Rattle.std.specs.Prelude.{◌≡◌};
 
 use crate::printed::{item, module_of};
 use ir_types::{Input, ItemKind, List, Site, Slot, Width};
-use machine_model::{OutItem, Outcome, Reason, Trap, Turns};
 use race_verdict::{HarmlessRun, Verdict};
 use report_text::{RaceReport, print_report};
+use run_types::{OutItem, Outcome, Reason, Trap, Turns};
 use std::alloc::Global;
 use std::test::Fail;
 

@@ -9,9 +9,9 @@ ghost use Rattle.race_top.specs.OrderEnforcer.{alternate_of};
 
 use crate::order_enforcer::{Alternate, alternate_job, primary_job};
 use ir_types::{Input, Module};
-use machine_model::{Case, Outcome, Race, Run, copy_input};
 use race_verdict::{JobKind, JobResult, Judged};
 use rc_base::NoMemory;
+use run_types::{Case, Outcome, Race, Run, copy_input};
 use std::alloc::Global;
 
 /// Whether a run ended with the exit of its process.

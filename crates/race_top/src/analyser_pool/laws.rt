@@ -3,7 +3,7 @@
 ghost use Rattle.race_top.specs.AnalyserPoolLaws.{JobsGiveResults};
 ghost use Rattle.race_top.specs.Evidence.{ClassesHaveEvidence, UnresolvedIsCut};
 
-use machine_model::laws::spent_is_cut;
+use machine_laws::spent_is_cut;
 
 /// The results of a race's jobs are as the verdict asks.
 pub fn jobs_give_results()

@@ -13,8 +13,8 @@ use crate::order_enforcer::past::Past;
 use crate::order_enforcer::tested::{Tested, test_turn};
 use concrete_machine::Course;
 use ir_types::{Input, Module};
-use machine_model::{Case, Race, Reason, Run};
 use rc_base::{NoMemory, Steps};
+use run_types::{Case, Race, Reason, Run};
 use std::sync::ledger::Ledger;
 
 /// Where an alternate begins.

@@ -21,8 +21,9 @@ ghost use Rattle.race_top.specs.Past.{Recalls};
 use crate::order_enforcer::past::Past;
 use concrete_machine::{Advance, Course};
 use ir_types::{Input, Module};
-use machine_model::{Access, Case, Outcome, Race, Reason, Run};
+use machine_model::Access;
 use rc_base::{NoMemory, Steps};
+use run_types::{Case, Outcome, Race, Reason, Run};
 use std::sync::ledger::Ledger;
 
 /// How a hold ends.

@@ -1,7 +1,7 @@
 //! What the repeat test compares with.
 
 ghost use Rattle.std.specs.Prelude.{◌≡◌, ◌∷◌, [], ◌++◌, ◌+◌, ◌<◌, ◌^◌, IfOk, List, OnOk, length};
-ghost use Rattle.machine_model.specs.declared.run.Outcome.TheVariants.{Repeats};
+ghost use Rattle.run_types.specs.declared.run.Outcome.TheVariants.{Repeats};
 ghost use Rattle.machine_model.specs.Repeat.{Snapshot, earlier_turn, repeats, same_snapshot, snapshot_of};
 ghost use Rattle.machine_model.specs.Setting.{Setting};
 ghost use Rattle.machine_model.specs.System.{machine_of};
@@ -10,8 +10,8 @@ ghost use Rattle.concrete_machine.specs.Course.{course_of};
 ghost use Rattle.race_top.specs.Past.{Recalls, kept_snapshot};
 
 use concrete_machine::{Course, Machine};
-use machine_model::Outcome;
 use rc_base::NoMemory;
+use run_types::Outcome;
 use turn_policy::Policy;
 
 /// The machine and the chooser after turn `earlier`, the greatest power of two among the `turns` so far. Before

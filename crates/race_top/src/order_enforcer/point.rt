@@ -15,8 +15,9 @@ ghost use Rattle.race_top.specs.Past.{Recalls};
 use crate::order_enforcer::past::Past;
 use concrete_machine::{Advance, Course};
 use ir_types::{Input, Module};
-use machine_model::{Access, Case, Race};
+use machine_model::Access;
 use rc_base::{NoMemory, Steps};
+use run_types::{Case, Race};
 use std::alloc::Global;
 use std::sync::ledger::Ledger;
 

@@ -15,8 +15,8 @@ ghost use Rattle.race_top.specs.Tested.{IsWithin, Tests};
 use crate::order_enforcer::past::Past;
 use concrete_machine::{Advance, Course};
 use ir_types::{Input, Module};
-use machine_model::{Case, Outcome, Run};
 use rc_base::{NoMemory, Steps};
+use run_types::{Case, Outcome, Run};
 use std::sync::ledger::Ledger;
 
 /// What a turn with the repeat test leads to.

@@ -12,8 +12,8 @@ ghost use Rattle.race_top.specs.Seen.{SeesPair};
 
 use crate::trace_replay::seen::{Pair, see_pair};
 use ir_types::Module;
-use machine_model::{Case, Race};
 use rc_base::Failure;
+use run_types::{Case, Race};
 use std::alloc::Global;
 use std::marker::Brand;
 use std::sync::ledger::Blank;

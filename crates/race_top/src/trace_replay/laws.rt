@@ -5,7 +5,7 @@ ghost use Rattle.machine_model.specs.System.{machine_of};
 ghost use Rattle.race_top.specs.CheckRaceLaws.{RecordedRunReaches, ThreadsDiffer};
 ghost use Rattle.race_top.specs.ReplayLaws.{ListedAreTaken, RefusedIsNotEnabled, RunTakesItsTurns};
 
-use machine_model::laws::chooser_follows_the_list;
+use machine_laws::chooser_follows_the_list;
 
 /// A run that was not spent takes its own turns, and a list of which nothing is refused stands at the front of the
 /// run's turns.

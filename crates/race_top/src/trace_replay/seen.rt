@@ -12,8 +12,9 @@ ghost use Rattle.race_top.specs.Seen.{IsDue, IsLeft, IsSeen, MayTake, SeesPair, 
 
 use concrete_machine::{Advance, Course};
 use ir_types::Module;
-use machine_model::{Access, Case};
+use machine_model::Access;
 use rc_base::{NoMemory, Steps};
+use run_types::Case;
 use std::alloc::Global;
 use std::sync::ledger::{Blank, Ledger};
 

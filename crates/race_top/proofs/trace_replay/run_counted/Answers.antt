@@ -1,7 +1,7 @@
 use Rattle.std.proofs.Common.{◌+◌, ◌-◌, arith, ◌∙◌}
 use Rattle.machine_model.specs.Primary.{Primary, setting_of}
 use Rattle.machine_model.specs.System.{machine_of}
-use Rattle.machine_model.proofs.Courses.{run-first_course, run-onward, run-over, run-spent}
+use Rattle.machine_laws.proofs.Courses.{run-first_course, run-onward, run-over, run-spent}
 use Rattle.concrete_machine.specs.Course.{course_of}
 use Rattle.race_top.proofs.trace_replay.run_counted.Goals as goal
 

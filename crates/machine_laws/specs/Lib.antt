@@ -1,0 +1,11 @@
+pub mod Example
+pub mod HoldLaws
+pub mod JobLaws
+pub mod JobReplays
+pub mod Laws
+pub mod OtherOrder
+pub mod PendingLaws
+pub mod RaceExample
+pub mod RepeatLaws
+pub mod ShapeLaws
+pub mod WholeAlternate

@@ -1,7 +1,0 @@
-use Rattle.machine_model.specs.System.{machine_of}
-use Rattle.machine_model.proofs.Machines.{machine-is_system}
-use Rattle.machine_model.proofs.Larger.{run_of-lasts}
-use Rattle.machine_model.proofs.laws.larger_budget_keeps_run.Goals as goal
-
-pub returns : goal.returns
-returns c = λ setting. run_of-lasts (machine_of setting) (machine-is_system setting)

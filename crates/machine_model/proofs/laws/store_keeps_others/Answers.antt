@@ -1,5 +1,0 @@
-use Rattle.machine_model.proofs.OtherBytes.{extents-kept, other_bytes-kept}
-use Rattle.machine_model.proofs.laws.store_keeps_others.Goals as goal
-
-pub returns : goal.returns
-returns c = record { extents = extents-kept; bytes = other_bytes-kept }
