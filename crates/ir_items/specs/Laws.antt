@@ -61,3 +61,18 @@ without_marks depth (node ∷ nodes) = kept_by depth (is_mark node) node (withou
 abbrev pub IsPhrase : List Told → Type 0
 IsPhrase [] = ⊥
 IsPhrase (first ∷ behind) = (is_mark first ≡ false) × (open_len (depth_behind zero first) behind ≡ length behind)
+
+-- how many phrases are open behind the nodes, where so many are before them
+abbrev pub depth_at_end : ℕ → List Told → ℕ
+depth_at_end depth [] = depth
+depth_at_end depth (node ∷ nodes) = depth_at_end (depth_behind depth node) nodes
+
+-- nodes that close all that they open
+abbrev pub IsClosed : List Told → Type 0
+IsClosed nodes = depth_at_end zero nodes ≡ zero
+
+-- each phrase that another one follows is closed
+abbrev pub AreClosed : List (List Told) → Type 0
+AreClosed [] = Unit {0}
+AreClosed (phrase ∷ []) = Unit {0}
+AreClosed (phrase ∷ next ∷ phrases) = IsClosed phrase × AreClosed (next ∷ phrases)

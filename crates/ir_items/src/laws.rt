@@ -4,7 +4,7 @@ ghost use Rattle.std.specs.Prelude.{◌≡◌, zero, List};
 ghost use Rattle.std.specs.List.{AllByRecursion};
 ghost use Rattle.ir_items.specs.declared.segment.Cut.{Cut};
 ghost use Rattle.ir_items.specs.declared.segment.Cut.TheVariants as cuts;
-ghost use Rattle.ir_items.specs.Laws.{AreCut, IsItem, IsPhrase, joined, nodes_of, without_marks};
+ghost use Rattle.ir_items.specs.Laws.{AreClosed, AreCut, IsClosed, IsItem, IsPhrase, joined, nodes_of, without_marks};
 ghost use Rattle.ir_items.specs.Phrase.{phrases_of};
 ghost use Rattle.ir_items.specs.Segment.{segments_of};
 ghost use Rattle.ir_read.specs.Laws.{Reads};
@@ -22,9 +22,12 @@ pub fn items_begin_with_an_item()
     ensures { (tokens : List Lexeme) (nodes : List Told) → Reads tokens nodes → AllByRecursion IsItem (segments_of cuts.Items nodes) }
 {}
 
-/// The phrases of a list are its nodes, one behind the other, but for the marks between them. Each is one node, or ends
-/// where all is closed that its first one opened, or where the list ends.
+/// The phrases of a list are its nodes, one behind the other, but for the marks between them. Each is one node, or goes on
+/// while something is open that it opened. Each but the last ends with all of that closed, and the last one too where
+/// nothing is open behind the list.
 pub fn phrases_are_the_nodes()
     ensures whole { (nodes : List Told) → joined (phrases_of nodes) ≡ without_marks zero nodes }
-    ensures closed { (nodes : List Told) → AllByRecursion IsPhrase (phrases_of nodes) }
+    ensures shaped { (nodes : List Told) → AllByRecursion IsPhrase (phrases_of nodes) }
+    ensures closed { (nodes : List Told) → AreClosed (phrases_of nodes) }
+    ensures all_closed { (nodes : List Told) → IsClosed nodes → AllByRecursion IsClosed (phrases_of nodes) }
 {}
