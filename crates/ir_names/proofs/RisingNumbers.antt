@@ -1,8 +1,8 @@
 -- The place of a number among numbers that rise.
-use Rattle.std.proofs.Common.{◌≡◌, ◌≢◌, ℕ, ◌<◌, ◌≤◌, List, [], ◌∷◌, ◌++◌, length, get_or, arith, nat_eq, Some, None, Result, Ok, Err, position, MatchResult, sym, ⊎_elim}
+use Rattle.std.proofs.Common.{◌≡◌, ◌≢◌, ℕ, ◌<◌, ◌≤◌, List, [], ◌∷◌, ◌++◌, length, get_or, arith, nat_eq, Some, None, Result, Ok, Err, position, nat_lt, true, ◌∙◌, MatchResult, sym, ⊎_elim}
 use Rattle.std.proofs.lemmas.Bool.{cases_lt}
 use Rattle.std.proofs.lemmas.Bool.Decides.{nat_tests}
-use Rattle.std.proofs.lemmas.Grind.{common_steps}
+use Rattle.std.proofs.lemmas.Grind.{common_steps, get_or_default_zero}
 use Rattle.std.proofs.lemmas.List.Sorted.{searched}
 use Rattle.std.proofs.lemmas.List.Sums.{position_or_len_is}
 use Rattle.std.specs.List.{position_or_len}
@@ -18,6 +18,14 @@ place_at numbers number place rises within is =
     position_or_len_is (nat_eq number) numbers place 0 (omega arith)
     (λ before less. let above = rises before place less within in grind (arith, nat_tests)) (λ _. grind (arith, nat_tests)) in
     grind (arith, common_steps, nat_tests)
+
+-- a number that stands at a place stands at no other
+pub found_at : (numbers : List ℕ) (number place other : ℕ) → Rises numbers → true ≡ nat_lt place (length numbers) →
+    other ≡ get_or numbers place other → nat_eq other number ≡ true → position (nat_eq number) numbers ≡ Some place
+found_at numbers number place other rises is_within at same =
+    let within : place < length numbers = grind (arith, nat_tests) in
+    let is : other ≡ number = grind (arith, nat_tests) in
+    place_at numbers number place rises within (sym (get_or_default_zero numbers place other within) ∙ sym at ∙ is)
 
 no_place : (numbers : List ℕ) (number : ℕ) → ((place : ℕ) → place < length numbers → get_or numbers place 0 ≢ number) →
     position (nat_eq number) numbers ≡ None

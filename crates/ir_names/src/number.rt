@@ -1,12 +1,12 @@
 //! Numbers of names, which have no upper limit.
 
-ghost use Rattle.std.specs.Prelude.{◌≡◌, ◌+◌, ◌-◌, ◌*◌, ◌^◌, ◌≤◌, min, OnErr, OnOk, IfOk};
+ghost use Rattle.std.specs.Prelude.{◌≡◌, ◌+◌, ◌-◌, ◌*◌, ◌^◌, ◌≤◌, min, OnErr, OnOk, IfOk, IfSome};
 ghost use Rattle.std.proofs.Common.{rules};
 ghost use Rattle.std.specs.Bool.{nat_eq};
 ghost use Rattle.std.specs.Cmp.{nat_eq_equiv, nat_cmp_total, partial_equiv_from_equiv, unsigned_po};
 ghost use Rattle.std.specs.Cmp.Rules.{comparing};
 ghost use Rattle.std.specs.Ordering.{nat_cmp, as_partial_cmp};
-ghost use Rattle.ir_names.specs.Number.{digit_at, lead_of, value_of};
+ghost use Rattle.ir_names.specs.Number.{digit_at, digit_of, lead_of, value_of};
 
 use rc_base::NoMemory;
 use std::cmp::Ordering;
@@ -18,7 +18,10 @@ const EVEN: u128 = 18_446_744_073_709_551_616;
 /// The greatest lead that is told apart.
 const MOST: u128 = 36_893_488_147_419_103_232;
 
-/// A number that digits of the text spell, or so many above that one.
+/// Numbers of digits are kept as what they spell as long as those before the last digit spell less.
+const MOST_SHORT: u64 = 1_152_921_504_606_846_976;
+
+/// A number that digits of the text spell, or so many above that one. A short one is so many above that of no digits.
 #[derive(Drop)]
 pub struct Number<'s> {
     digits: &'s [u8],
@@ -51,10 +54,21 @@ impl<'s> Number<'s> {
     pub fn of(digits: &'s [u8]) -> Self
         ensures { result ≡ value_of digits.now }
     {
-        Number {
-            digits: without_zeros(digits),
-            above: 0,
+        let rest = without_zeros(digits);
+        match short_value(rest) {
+            Some(above) => Number { digits: b"", above },
+            None => Number {
+                digits: rest,
+                above: 0,
+            },
         }
+    }
+
+    /// Where the number is likely to stand among numbers that rise from 0 without a gap.
+    pub(crate) fn likely_place(&self) -> u64
+        ensures { result ≤ self.now }
+    {
+        self.above
     }
 
     /// The same number again.
@@ -117,6 +131,9 @@ impl Ord for Number<'_> {
 
     #[tactic(auto, using(crate::proofs::Numbers::lead_tells))]
     fn cmp(&self, other: &Self) -> Ordering {
+        if self.digits.is_empty() && other.digits.is_empty() {
+            return self.above.cmp(&other.above);
+        }
         let lead = lead_of(self.digits, other.digits);
         (lead + self.above as u128).cmp(&(EVEN + other.above as u128))
     }
@@ -133,15 +150,35 @@ fn without_zeros(digits: &[u8]) -> &[u8]
     rest
 }
 
+/// The number that digits spell, where it is short.
+fn short_value(digits: &[u8]) -> Option<u64>
+    ensures { IfSome result (λ value. value ≡ value_of digits.now) }
+{
+    let mut value: u64 = 0;
+    for byte in digits {
+        if value >= MOST_SHORT {
+            return None;
+        }
+        value = 10 * value + digit_of(*byte) as u64;
+    }
+    Some(value)
+}
+
+/// What a digit stands for.
+fn digit_of(byte: u8) -> u8
+    ensures value { result ≡ digit_of byte }
+    ensures small { result ≤ 9 }
+{
+    byte.saturating_sub(b'0').min(9)
+}
+
 /// The digit with so many behind it, and 0 where there are fewer.
 fn digit_at(digits: &[u8], behind: usize) -> u8
     ensures value { result ≡ digit_at digits.now behind }
     ensures small { result ≤ 9 }
 {
     if behind < digits.len() {
-        digits[digits.len() - 1 - behind]
-            .saturating_sub(b'0')
-            .min(9)
+        digit_of(digits[digits.len() - 1 - behind])
     } else {
         0
     }

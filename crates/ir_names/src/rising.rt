@@ -1,6 +1,6 @@
 //! Numbers that rise, and a search among them.
 
-ghost use Rattle.std.specs.Prelude.{◌≡◌, ℕ, ◌<◌, [], ◌∷◌, ◌++◌, length, nat_eq, position, slice_index, OnErr, OnOk};
+ghost use Rattle.std.specs.Prelude.{◌≡◌, ℕ, ◌<◌, [], ◌∷◌, ◌++◌, length, nat_eq, position, slice_index, IsTrue, OnErr, OnOk, Some};
 
 use crate::number::Number;
 use rc_base::NoMemory;
@@ -36,8 +36,27 @@ impl<'s> Rising<'s> {
         }
     }
 
-    /// The place of the number, from 0.
+    /// The place of the number, from 0. Most numbers of a body rise from 0 without a gap, so that each stands at its own.
     pub fn place(&self, number: &Number<'_>) -> Option<usize>
+        ensures { result ≡ position (nat_eq number.now) self.now }
+    {
+        match usize::try_from(number.likely_place()) {
+            Ok(place) if self.has_at(place, number) => Some(place),
+            _ => self.search(number),
+        }
+    }
+
+    /// Whether the number stands at the place.
+    fn has_at(&self, place: usize, number: &Number<'_>) -> bool
+        ensures { IsTrue result → position (nat_eq number.now) self.now ≡ Some place }
+    {
+        match self.numbers.get(place) {
+            Some(other) => other == number,
+            None => false,
+        }
+    }
+
+    fn search(&self, number: &Number<'_>) -> Option<usize>
         ensures { result ≡ position (nat_eq number.now) self.now }
     {
         self.numbers.binary_search(number).ok()

@@ -2,7 +2,7 @@ use Rattle.std.proofs.Common.{◌∙◌, ap, nat_eq, position, subst, ℕ, List}
 use Rattle.std.specs.List.Sorted.{IsBinarySearchResult}
 use Rattle.std.specs.Ordering.{nat_cmp}
 use Rattle.ir_names.proofs.RisingNumbers.{searched_place}
-use Rattle.ir_names.proofs.rising.Rising.place.Goals as goal
+use Rattle.ir_names.proofs.rising.Rising.search.Goals as goal
 
 pub returns : goal.returns
 returns c =
