@@ -1,3 +1,4 @@
 mod Edges
+pub mod NoPhis
 mod Phases
 mod Standing

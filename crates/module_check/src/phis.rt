@@ -3,14 +3,19 @@
 ghost use Rattle.std.specs.Prelude.{◌≡◌, ℕ, IfOk, OnOk};
 ghost use Rattle.std.specs.BTreeSet.{contains};
 ghost use Rattle.std.specs.Ordering.{nat_cmp};
+ghost use Rattle.std.specs.List.{list_any};
+ghost use Rattle.ir_items.specs.Statement.{statements_of};
 ghost use Rattle.module_check.specs.Phis as spec;
+ghost use Rattle.module_check.specs.Shape.{is_phi_by};
 
 use crate::block_place::BlockPlace;
 use crate::body_names::begins_with_label;
 use crate::predecessors::{named_blocks, predecessors_of};
 use crate::shape::is_phi;
 use instruction_check::BodyNames;
+use ir_items::laws::segments_are_the_nodes;
 use ir_items::{Item, Statement, Statements};
+use ir_read::{Node, Terminal};
 use ir_types::List;
 use module_fault::{Cause, Fault, First, unless};
 use rc_base::NoMemory;
@@ -35,7 +40,30 @@ pub fn phi_fault<'s>(
 ) -> Result<Option<Fault>, NoMemory>
     ensures { IfOk result (λ found. found ≡ spec.phi_fault names.now blocks item.now) }
 {
+    segments_are_the_nodes();
     let body = item.body();
+    if !has_phi(body) {
+        return Ok(None);
+    }
+    phi_fault_in(alloc, names, blocks, body)
+}
+
+/// Whether a node of the body is the word of a phi. Most bodies have none, and where they lead is not looked for then.
+fn has_phi(body: &[Node<'_>]) -> bool
+    ensures { result ≡ list_any (λ node. is_phi_by node.terminal) body.now }
+{
+    body.iter()
+        .any(|node| matches!(node.terminal, Terminal::Phi))
+}
+
+fn phi_fault_in<'s>(
+    alloc: Global,
+    names: &BodyNames<'s>,
+    blocks: usize,
+    body: &[Node<'s>],
+) -> Result<Option<Fault>, NoMemory>
+    ensures { IfOk result (λ found. found ≡ (spec.phis_from names.now (spec.no_phis names.now blocks body.now) (statements_of body.now)).first) }
+{
     let mut phis = Phis {
         predecessors: predecessors_of(alloc, names, blocks, body)?,
         place: BlockPlace::new(begins_with_label(body)),
