@@ -4,13 +4,13 @@ use Rattle.std.proofs.lemmas.Bool.{false≢true}
 use Rattle.std.proofs.lemmas.Bool.Decides.{nat_tests}
 use Rattle.std.proofs.lemmas.Grind.{common_steps}
 use Rattle.std.proofs.lemmas.List.Folds.{position_or_len_push}
-use Rattle.std.proofs.lemmas.List.{length-map, map-append}
-use Rattle.std.proofs.lemmas.List.Sums.{passes_at_first, prefix_len-le-length}
+use Rattle.std.proofs.lemmas.List.{get_or-map, length-map, map-append}
+use Rattle.std.proofs.lemmas.List.Sums.{passes_at_first, position_or_len_is, prefix_len-le-length}
 use Rattle.std.proofs.lemmas.Option.{slice_get-get_or}
 use Rattle.std.proofs.lemmas.Slice.Eq.{bytes_eq-Decides}
 use Rattle.std.specs.List.{list_any, position_or_len}
 use Rattle.std.specs.Option.{option_or, unwrap_or}
-use Rattle.std.proofs.lemmas.Map.Keys.{IsDistinct-push}
+use Rattle.std.proofs.lemmas.Map.Keys.{IsDistinct-push, apart_from_distinct}
 use Rattle.std.specs.Cmp.{IsEquivalence, decided}
 use Rattle.std.specs.BTreeMap.{BTreeMap, is_at}
 use Rattle.std.specs.Cmp.Lexicographic.{slice_cmp}
@@ -52,6 +52,30 @@ pub place_named : (names : List (List ℕ)) (name : List ℕ) (place : ℕ) → 
 place_named names name place is =
     slice_get-get_or names place [] (place_within (bytes_eq name) names place is)
     ∙ ap Some (sym ((bytes_eq-Decides name (get_or names place [])).0 (place_passes (bytes_eq name) names place [] is)))
+
+-- a name that stands at a place stands at no other
+place_at : (names : List (List ℕ)) (name : List ℕ) (place : ℕ) → IsDistinct bytes_eq names → place < length names →
+    bytes_eq (get_or names place []) name ≡ true → position (bytes_eq name) names ≡ Some place
+place_at names name place once within is =
+    let same : bytes_eq name (get_or names place []) ≡ true = bytes_equiv.symm name (get_or names place []) ∙ is in
+    let first : position_or_len (bytes_eq name) names ≡ place =
+    position_or_len_is (bytes_eq name) names place [] (omega arith)
+    (λ before less.
+    bytes_equiv.congr name (get_or names place []) (get_or names before []) same
+    ∙ bytes_equiv.symm (get_or names place []) (get_or names before [])
+    ∙ apart_from_distinct bytes_eq names before place [] once less within)
+    (λ _. same) in
+    grind (arith, common_steps, nat_tests)
+
+pub named_at : (names : List (Bor (List ℕ))) (name : List ℕ) (place : ℕ) (other : Bor (List ℕ)) →
+    IsDistinct bytes_eq (map (λ given. given.now) names) → true ≡ ltb place (length names) → other ≡ get_or names place other →
+    bytes_eq other.now name ≡ true → Some place ≡ position (bytes_eq name) (map (λ given. given.now) names)
+named_at names name place other once is_within at same =
+    let within : place < length names = grind (arith, nat_tests) in
+    let there : get_or (map (λ given. given.now) names) place [] ≡ other.now =
+    get_or-map (λ (given : Bor (List ℕ)). given.now) names place other [] within ∙ ap (λ (given : Bor (List ℕ)). given.now) (sym at) in
+    sym (place_at (map (λ given. given.now) names) name place once (omega (arith, length-map names (λ (given : Bor (List ℕ)). given.now)))
+    (ap (λ there. bytes_eq there name) there ∙ same))
 
 pub within_some : {X : Type 0} (p : X → Bool) (xs : List X) (found : Option ℕ) → found ≡ position p xs → IfSome found (λ place. place < length xs)
 within_some p xs None is = tt

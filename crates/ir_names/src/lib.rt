@@ -2,12 +2,14 @@
 //!
 //! - `name_table`: names with the number of each
 //! - `number`: numbers without upper limit
+//! - `guesses`: where names are likely to stand
 //! - `local_name`: a name of a body, which is a number or plain
 //! - `rising`: numbers that rise, and a search among them
 //! - `local_table`: the names of a body, with the count from which definitions without a name take theirs
 //! - `laws`: that names keep their places, and that the count is free
 #![tactic(auto)]
 
+mod guesses;
 pub mod laws;
 mod local_name;
 mod local_table;

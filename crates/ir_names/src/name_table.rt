@@ -1,11 +1,12 @@
 //! The names of a module's items of one kind, with the number of each.
 
-ghost use Rattle.std.specs.Prelude.{◌≡◌, ◌<◌, [], length, position, unwrap_or, slice_get, IfOk, IfSome, OnOk, OnErr, Some};
+ghost use Rattle.std.specs.Prelude.{◌≡◌, ◌<◌, [], length, position, unwrap_or, slice_get, IfOk, IfSome, IsTrue, OnOk, OnErr, Some};
 ghost use Rattle.std.specs.BTreeMap.{IsUnchanged};
 ghost use Rattle.std.specs.List.{IsDistinct};
 ghost use Rattle.std.specs.Str.{bytes_eq};
 ghost use Rattle.ir_names.specs.NameTable.{given, number_of, GivesNumber};
 
+use crate::guesses::Guesses;
 use rc_base::NoMemory;
 use std::alloc::Global;
 use std::collections::BTreeMap;
@@ -16,6 +17,7 @@ use std::marker::Model;
 pub struct NameTable<'s> {
     names: Vec<&'s [u8]>,
     numbers: BTreeMap<&'s [u8], usize>,
+    guesses: Guesses,
 }
 
 impl<'s> Model for NameTable<'s> {
@@ -62,6 +64,7 @@ impl<'s> NameTable<'s> {
         NameTable {
             names: Vec::new(alloc),
             numbers: BTreeMap::new(alloc),
+            guesses: Guesses::new(alloc),
         }
     }
 
@@ -79,6 +82,25 @@ impl<'s> NameTable<'s> {
         ensures within { IfSome result (λ number. number < length self.now) }
         ensures named { IfSome result (λ number. slice_get self.now number ≡ Some name.now) }
     {
+        match self.guesses.place(name) {
+            Some(place) if self.has_at(place, name) => Some(place),
+            _ => self.search(name),
+        }
+    }
+
+    /// Whether the name has the number.
+    fn has_at(&self, number: usize, name: &[u8]) -> bool
+        ensures { IsTrue result → Some number ≡ position (bytes_eq name.now) self.now }
+    {
+        match self.names.get(number) {
+            Some(given) => *given == name,
+            None => false,
+        }
+    }
+
+    fn search(&self, name: &[u8]) -> Option<usize>
+        ensures { result ≡ position (bytes_eq name.now) self.now }
+    {
         self.numbers.get(name).copied()
     }
 
@@ -89,12 +111,14 @@ impl<'s> NameTable<'s> {
         ensures err { OnErr result (self.new ≡ self.old) }
     {
         self.names.reserve(1)?;
+        self.guesses.make_room(&self.names)?;
         let number = self.names.len();
         let first = number_or_give(&mut self.numbers, name, number)?;
         if first < number {
             return Ok(Some(first));
         }
         self.names.push(name)?;
+        self.guesses.note(name, number);
         Ok(None)
     }
 }

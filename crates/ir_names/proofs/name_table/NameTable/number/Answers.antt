@@ -1,13 +1,10 @@
-use Rattle.std.proofs.Common.{◌∙◌, ap, bytes_eq, position}
-use Rattle.ir_names.proofs.Tables.{named_some, within_some}
+use Rattle.std.proofs.Common.{sym}
+use Rattle.ir_names.proofs.Tables.{named_some, place_named}
 use Rattle.ir_names.proofs.name_table.NameTable.number.Goals as goal
 
-pub returns-clause-within : goal.returns-clause-within
-returns-clause-within c =
-    within_some (bytes_eq c.args.name.now) c.args.self.now c.copied.result
-    (c.copied.ensures ∙ c.get.ensures.value ∙ c.self.invariant.0 c.args.name.now ∙ ap (position (bytes_eq c.args.name.now)) c.self.view_is)
+pub returns-in-Some-clause-named : goal.returns-in-Some-clause-named
+returns-in-Some-clause-named c =
+    place_named c.args.self.now c.args.name.now c.in-Some.place (sym (c.has_at.ensures c.if-has_at.true))
 
-pub returns-clause-named : goal.returns-clause-named
-returns-clause-named c =
-    named_some c.args.self.now c.args.name.now c.copied.result
-    (c.copied.ensures ∙ c.get.ensures.value ∙ c.self.invariant.0 c.args.name.now ∙ ap (position (bytes_eq c.args.name.now)) c.self.view_is)
+pub returns-in_default-clause-named : goal.returns-in_default-clause-named
+returns-in_default-clause-named c = named_some c.args.self.now c.args.name.now c.search.result c.search.ensures
