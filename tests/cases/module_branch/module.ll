@@ -1,5 +1,5 @@
 define i32 @main() {
-  br label %target
-target:
+  br label %next
+next:
   ret i32 0
 }
